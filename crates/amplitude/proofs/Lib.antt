@@ -1,0 +1,3 @@
+pub mod RingLaws
+pub mod Bounds
+mod Arms

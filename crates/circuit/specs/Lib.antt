@@ -1,0 +1,4 @@
+pub mod Circuit
+pub mod Rows
+pub mod Code
+pub mod Refusals

@@ -1,0 +1,4 @@
+//! Devices: coupling graphs of up to sixteen places.
+mod device;
+
+pub use device::Device;
