@@ -1,11 +1,9 @@
 -- Rows of noughts and ones: flipping one, and the tests on it.
-use mathlib.Core.Bool.{Bool, true, false, _&&_, _||_, not, cond}
-use mathlib.Core.Path.{_≡_, refl, sym, ap, _∙_, fun-ext}
-use Prim.Native.Nat.{ℕ, zero, suc, _<_}
-use native.Mathlib.Omega.{arith}
+use mathlib.Core.Bool.{Bool, true, false, not, cond}
+use mathlib.Core.Path.{_≡_, refl, fun-ext}
+use Prim.Native.Nat.{ℕ}
 use lib.Dec.{eqb}
-use borrow.Author.Tests.{eq-eqb, ne-eqb, eqb-true, eqb-false}
-use Rattle.std.proofs.shelf.Ways.{tells}
+use borrow.Author.Tests.{eq-eqb, ne-eqb}
 use Rattle.circuit.specs.Circuit.{Row, flipped}
 
 pub flipped-at : (q : ℕ) (b : Row) → flipped q b q ≡ not (b q)

@@ -1,8 +1,8 @@
 -- Every gate, at a row, is one of four ways to join the amplitude there and that at the row with the gate's qubit flipped.
-use mathlib.Core.Bool.{Bool, true, false, _&&_, _||_, not, cond}
-use mathlib.Core.Path.{_≡_, refl, sym, ap, _∙_, fun-ext}
-use Prim.Native.Nat.{ℕ, zero, suc}
-use Rattle.amplitude.specs.Ring.{plus, minus, turned, rooted}
+use mathlib.Core.Bool.{Bool, true, false, _&&_, cond}
+use mathlib.Core.Path.{_≡_, refl}
+use Prim.Native.Nat.{ℕ}
+use Rattle.amplitude.specs.Ring.{plus, minus, turned}
 use Rattle.amplitude.specs.declared.Amplitude.{Amplitude}
 use Rattle.circuit.specs.Circuit.{target, Row, State, flipped, does}
 use Rattle.circuit.specs.declared.gate.Gate.{Gate}

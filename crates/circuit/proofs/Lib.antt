@@ -1,3 +1,11 @@
 pub mod Flips
 pub mod Kernel
 pub mod Linear
+pub mod Numbers
+pub mod Sweep
+pub mod Pairs
+pub mod Counts
+pub mod Growth
+pub mod Runs
+pub mod Columns
+pub mod Codes

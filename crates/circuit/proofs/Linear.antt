@@ -1,8 +1,7 @@
 -- A circuit goes sum by sum, and commutes with whatever does so on amplitudes and commutes with a turn.
-use mathlib.Core.Bool.{cond}
 use mathlib.Core.List.{List, [], _∷_, _++_}
 use mathlib.Core.Path.{_≡_, refl, sym, ap, ap₂, _∙_, fun-ext}
-use Prim.Native.Nat.{ℕ, zero, suc}
+use Prim.Native.Nat.{ℕ}
 use native.Mathlib.Omega.{arith}
 use Rattle.std.proofs.shelf.Signed.{ints}
 use Rattle.amplitude.proofs.RingLaws.{parts, turned-plus, turned-minus, turned-turned, rooted-plus, rooted-minus, rooted-turned}

@@ -2,3 +2,4 @@ pub mod Circuit
 pub mod Rows
 pub mod Code
 pub mod Refusals
+pub mod Vector

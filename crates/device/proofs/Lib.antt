@@ -1,3 +1,4 @@
 pub mod Growth
 pub mod Pairs
 pub mod Places
+pub mod Distant

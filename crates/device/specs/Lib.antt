@@ -4,3 +4,4 @@ pub mod Board
 pub mod Trees
 pub mod Connect
 pub mod Checks
+pub mod Distances

@@ -1,0 +1,10 @@
+pub mod Local
+pub mod Cover
+pub mod Basis
+pub mod Across
+pub mod Scanning
+pub mod Rowwise
+pub mod Refusing
+pub mod One
+pub mod Tests
+pub mod Join

@@ -1,0 +1,5 @@
+pub mod Undo
+pub mod Same
+pub mod Places
+pub mod Rename
+pub mod TableOf

@@ -1,0 +1,4 @@
+pub mod Undo
+pub mod Rename
+pub mod Laws
+pub mod Identities
