@@ -1,0 +1,2 @@
+pub mod PlanSteps
+pub mod SplitSteps

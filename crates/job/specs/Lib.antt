@@ -1,0 +1,3 @@
+pub mod Builders
+pub mod Plan
+pub mod Split

@@ -1,0 +1,13 @@
+pub mod CutSteps
+pub mod Decimal
+pub mod Spelt
+pub mod Rows
+pub mod Steps
+pub mod Written
+pub mod Said
+pub mod Parts
+pub mod Sound
+pub mod Begun
+pub mod Faults
+pub mod Answered
+pub mod Falls
