@@ -1,0 +1,9 @@
+mod Pieces
+mod Digits
+mod Readings
+mod Telling
+mod Jobs
+mod Figures
+mod Spell
+mod Told
+mod Wherein
