@@ -80,6 +80,7 @@ fn refused(rt: &LibcRuntime) -> io::Result<()> {
     show(rt, "", "")?;
     show(rt, "mix 8;", "")?;
     show(rt, "flip 0; flip 1 if 1;", "")?;
+    show(rt, "31 times { mix 0; }", "30 times { mix 0; }")?;
     show(rt, "mix 0; turn 1 off 0;", "")?;
     show(rt, "mix 0;", "mix 0")
 }
