@@ -3,7 +3,7 @@ use Rattle.std.proofs.Common.{◌≡◌, ℕ, zero, suc, ◌+◌, ◌<◌, Bool,
 use Rattle.std.specs.List.{IsAnyAnswer, HoldsAt}
 use Rattle.std.proofs.lemmas.List.Elements.{contains_decides}
 use Rattle.std.proofs.lemmas.List.{drop_more, take_more, length_push, get_or_push, get_or_default, get_or_append_left, get_or-append-add, append-nil}
-use Rattle.std.proofs.lemmas.Bool.{cases_lt, and_parts, and_from, ltb-true, lt-ltb, not_true, cond_true, cond_false}
+use Rattle.std.proofs.lemmas.Bool.{cases_lt, and_parts, and_from, ltb-true, lt-ltb, not-true, cond-true, cond-false}
 use Rattle.std.proofs.lemmas.Bool.Decides.{same_from_decides, Decides-by_or, Decides-eqb, Decides-not, not_from_Decides}
 use Rattle.device.specs.Coupling.{Graph}
 use Rattle.device.specs.Layout.{Placed, at}
@@ -12,11 +12,11 @@ use Rattle.device.specs.Checks.{beyond_from, among, misplaced_from, LayoutTold}
 -- a number below the limit is passed over, and any other is the answer
 pub beyond_more : (limit i : ℕ) (xs : List ℕ) → i < length xs → get_or xs i 0 < limit → beyond_from limit i (drop i xs) ≡ beyond_from limit (i + 1) (drop (i + 1) xs)
 unfolding beyond_from
-beyond_more limit i xs h l = ap (beyond_from limit i) (drop_more xs i 0 h) ∙ cond_true _ _ _ (lt-ltb _ _ l)
+beyond_more limit i xs h l = ap (beyond_from limit i) (drop_more xs i 0 h) ∙ cond-true _ _ _ (lt-ltb _ _ l)
 
 pub beyond_here : (limit i : ℕ) (xs : List ℕ) → i < length xs → ltb (get_or xs i 0) limit ≡ false → beyond_from limit i (drop i xs) ≡ Some i
 unfolding beyond_from
-beyond_here limit i xs h l = ap (beyond_from limit i) (drop_more xs i 0 h) ∙ cond_false _ _ _ l
+beyond_here limit i xs h l = ap (beyond_from limit i) (drop_more xs i 0 h) ∙ cond-false _ _ _ l
 
 -- what stands under a test that must be true
 under : (t : Bool) (o : Option ℕ) (i : ℕ) → cond t o (Some i) ≡ None → (t ≡ true) × (o ≡ None)
@@ -42,11 +42,11 @@ pub misplaced_more : (size i : ℕ) (xs : List ℕ) → i < length xs → fits s
 unfolding misplaced_from
 misplaced_more size i xs h t =
     ap (misplaced_from size (take i xs) i) (drop_more xs i 0 h)
-    ∙ (cond_true _ _ _ t ∙ ap (λ ys. misplaced_from size ys (i + 1) (drop (i + 1) xs)) (sym (take_more xs i 0 h)))
+    ∙ (cond-true _ _ _ t ∙ ap (λ ys. misplaced_from size ys (i + 1) (drop (i + 1) xs)) (sym (take_more xs i 0 h)))
 
 pub misplaced_here : (size i : ℕ) (xs : List ℕ) → i < length xs → fits size (take i xs) (get_or xs i 0) ≡ false → misplaced_from size (take i xs) i (drop i xs) ≡ Some i
 unfolding misplaced_from
-misplaced_here size i xs h t = ap (misplaced_from size (take i xs) i) (drop_more xs i 0 h) ∙ cond_false _ _ _ t
+misplaced_here size i xs h t = ap (misplaced_from size (take i xs) i) (drop_more xs i 0 h) ∙ cond-false _ _ _ t
 
 -- a test for the places before is that of `contains`
 pub contains_among : (x : ℕ) (ys : List ℕ) (r : Bool) → IsAnyAnswer (λ y t. Decides t (y ≡ x)) ys r → r ≡ among x ys
@@ -70,7 +70,7 @@ module _ (d : Graph) (xs : List ℕ) (x : ℕ) (l : Placed (length xs) d (at xs)
 
   clash : (k m : ℕ) → k < length xs → m ≡ length xs → get_or ys k 0 ≡ get_or ys m 0 → ⊥
   clash k m h q e =
-      not_from_Decides (among x xs) (among-told x xs) (not_true (among x xs) (and_parts (ltb x d.size) (not (among x xs)) t).1)
+      not_from_Decides (among x xs) (among-told x xs) (not-true (among x xs) (and_parts (ltb x d.size) (not (among x xs)) t).1)
       (k, h, λ z. get_or_default xs k z 0 h ∙ (sym (there k h) ∙ (e ∙ (ap (λ i. get_or ys i 0) q ∙ here))))
 
   apart_more : (k m : ℕ) → k < length xs + 1 → m < length xs + 1 → get_or ys k 0 ≡ get_or ys m 0 → k ≡ m
@@ -113,7 +113,7 @@ taken-on : (d : Graph) (xs ys : List ℕ) (i : ℕ) → Placed (length (xs ++ ys
 unfolding misplaced_from
 taken-on d xs [] i l = refl
 taken-on d xs (y ∷ ys) i l =
-    cond_true (fits d.size xs y) _ _ (next_fits d xs y ys l)
+    cond-true (fits d.size xs y) _ _ (next_fits d xs y ys l)
     ∙ taken-on d (xs ++ (y ∷ [])) ys (i + 1) (subst (λ zs. Placed (length zs) d (at zs)) (sym (append_assoc xs (y ∷ []) ys)) l)
 
 no_places : (d : Graph) → Placed 0 d (at [])

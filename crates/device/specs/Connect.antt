@@ -14,7 +14,7 @@ abbrev pub Even : Graph → Type 0
 Even d = (x y : ℕ) → x < d.size → y < d.size → d.joined x y ≡ d.joined y x
 
 -- joined one way only, and the first such pair
-pub record OneWay (d : Graph) (a b : ℕ) : Type 0 where
+pub record IsOneWay (d : Graph) (a b : ℕ) : Type 0 where
   pub a_inside : a < d.size
   pub b_inside : b < d.size
   pub differs : d.joined a b ≡ d.joined b a → ⊥
@@ -29,12 +29,12 @@ pub record NoWay (d : Graph) (a b : ℕ) : Type 0 where
   pub first : (x y : ℕ) → x < d.size → y < d.size → x * d.size + y < a * d.size + b → Way d x y
 
 abbrev pub Shows : Graph → Fault → Type 0
-Shows d (OneWay a b) = OneWay d a b
+Shows d (OneWay a b) = IsOneWay d a b
 Shows d (Apart a b) = NoWay d a b
 
 -- the pair that shows it stands at place p of the list of wires
 abbrev pub CutOff : Graph → ℕ → Type 0
-CutOff d p = (a : ℕ) × (b : ℕ) × (p ≡ a * d.size + b) × (OneWay d a b ⊎ NoWay d a b)
+CutOff d p = (a : ℕ) × (b : ℕ) × (p ≡ a * d.size + b) × (IsOneWay d a b ⊎ NoWay d a b)
 
 -- such a device is not connected, and there is one such place
 pub record CutOffTells : Type 0 where

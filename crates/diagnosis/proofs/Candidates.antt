@@ -2,7 +2,7 @@
 use Rattle.std.proofs.Common.{◌≡◌, ℕ, zero, suc, ◌+◌, ◌<◌, Bool, true, false, cond, List, [], ◌∷◌, ◌++◌, length, get_or, take, filter, sym, ap, ◌∙◌, subst, ⊎_elim, append-nil, arith}
 use mathlib.Core.Bool.{false≢true}
 use Rattle.std.proofs.lemmas.List.Elements.{filter_more}
-use Rattle.std.proofs.ByRecursion.{has_append_left, has_append_right, has_push, has_get_or, all-has, AllWeaker, kept_by_passes}
+use Rattle.std.proofs.ByRecursion.{has_append_left, has_append_right, has_push, has_get_or, all-has, All-weaker, kept_by_passes}
 use Rattle.std.proofs.lemmas.Bool.{cases_lt}
 use Rattle.std.specs.List.{ContainsAt as Has, AllByRecursion as All}
 use Rattle.text.specs.declared.token.Token.{Token}
@@ -60,7 +60,7 @@ kept-each : {X : Type 0} (p : X → Bool) (xs : List X) → All (λ x. p x ≡ t
 kept-each p [] = tt
 kept-each p (x ∷ xs) = (
   kept_here (p x) x (filter p xs),
-  AllWeaker (λ y. p y ≡ true → Has (filter p xs) y) (λ y. p y ≡ true → Has (filter p (x ∷ xs)) y) (λ y f e. kept_more (p x) x y (filter p xs) (f e)) xs (kept-each p xs),
+  All-weaker (λ y. p y ≡ true → Has (filter p xs) y) (λ y. p y ≡ true → Has (filter p (x ∷ xs)) y) (λ y f e. kept_more (p x) x y (filter p xs) (f e)) xs (kept-each p xs),
 )
 
 pub kept-has : {X : Type 0} (p : X → Bool) (xs : List X) (x : X) → Has xs x → p x ≡ true → Has (filter p xs) x

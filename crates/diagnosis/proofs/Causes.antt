@@ -1,7 +1,7 @@
 -- Why a text is refused, case by case.
 use Rattle.std.proofs.Common.{◌≡◌, ℕ, ◌-◌, ◌<◌, ◌≤◌, min, List, length, get_or, take, drop, Ok, Err, sym, ap, ◌∙◌, ⊎_elim, arith, length-drop}
 use Rattle.std.proofs.lemmas.List.{take_all, drop_all}
-use Rattle.std.proofs.lemmas.Bool.{cases_lt, le-leb, lt-leb, cond_true, cond_false}
+use Rattle.std.proofs.lemmas.Bool.{cases_lt, le-leb, lt-leb, cond-true, cond-false}
 use Rattle.circuit.specs.declared.refusal.Refusal.{Refusal}
 use Rattle.text.specs.declared.token.Token.{Token}
 use Rattle.text.specs.declared.token.Token.TheVariants.{Other}
@@ -20,17 +20,17 @@ tail bs n k e =
 
 module _ (limit : ℕ) (bs : List ℕ) (signs : List Token) (i : ℕ) where
   pub at_end : length signs ≤ i → EndsTooSoon ≡ fault_at limit bs signs i
-  at_end h = sym (cond_true _ _ _ (le-leb (length signs) i h))
+  at_end h = sym (cond-true _ _ _ (le-leb (length signs) i h))
 
   pub too_long : i < length signs → 4096 ≤ i → TooManySigns ≡ fault_at limit bs signs i
-  too_long h many = sym (cond_false _ _ _ (lt-leb (length signs) i h) ∙ cond_true _ _ _ (le-leb 4096 i many))
+  too_long h many = sym (cond-false _ _ _ (lt-leb (length signs) i h) ∙ cond-true _ _ _ (le-leb 4096 i many))
 
   module _ (inside : i < length signs) (few : i < 4096) where
     abbrev there : Token
     there = get_or signs i Other
 
     after_is : fault_at limit bs signs i ≡ fault_after limit (too_large bs i there) (runs 0 begins 0 (take i signs)) there
-    after_is = cond_false _ _ _ (lt-leb (length signs) i inside) ∙ cond_false _ _ _ (lt-leb 4096 i few)
+    after_is = cond-false _ _ _ (lt-leb (length signs) i inside) ∙ cond-false _ _ _ (lt-leb 4096 i few)
 
     pub next-is : (s : State) → runs 0 begins 0 (take i signs) ≡ Ok s → fault_next limit (too_large bs i there) s there ≡ fault_at limit bs signs i
     next-is s e = sym (after_is ∙ ap (λ r. fault_after limit (too_large bs i there) r there) e)

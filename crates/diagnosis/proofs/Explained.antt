@@ -2,7 +2,7 @@
 use Rattle.std.proofs.Common.{◌≡◌, ℕ, zero, suc, ◌+◌, ◌<◌, ◌≤◌, Bool, true, false, cond, ◌&&◌, List, [], ◌∷◌, ◌++◌, length, get_or, take, drop, Ok, Err, Result, sym, refl, ap, ◌∙◌, subst, arith, length-append, take-append-drop}
 use mathlib.Core.Bool.{false≢true}
 use Rattle.std.proofs.lemmas.List.{length-take-le, take_more}
-use Rattle.std.proofs.lemmas.Bool.{cond_true, cond_false, and_parts}
+use Rattle.std.proofs.lemmas.Bool.{cond-true, cond-false, and_parts}
 use Rattle.circuit.specs.declared.gate.Gate.{Gate}
 use Rattle.circuit.specs.declared.gate.Gate.TheVariants.{Phase, Hadamard, Not, ControlledNot, Toffoli}
 use Rattle.circuit.specs.declared.refusal.Refusal.{Refusal}
@@ -10,7 +10,7 @@ use Rattle.text.specs.declared.token.Token.{Token}
 use Rattle.text.specs.declared.token.Token.TheVariants.{Turn, Of, Mix, Flip, If, Device, Joined, Lay, Undo, Times, Block, Call, On, Number, Open, Close, Semicolon, Other}
 use Rattle.text.specs.Accept.{accepts}
 use Rattle.text.specs.Move.{is}
-use Rattle.text.specs.Program.{Program, nothing, gate, next, times, undo, call, Source, written, blocks_written, text_of, checks_of, All, Begins, Unread, Single, Over}
+use Rattle.text.specs.Program.{Program, nothing, gate, next, times, undo, call, Source, written, blocks_written, text_of, checks_of, AllTrue, Begins, Unread, Single, Over}
 use Rattle.text.specs.Reading.{State, runs, begins}
 use Rattle.text.specs.Spelling.{Spells}
 use Rattle.text.proofs.Said.{over-source}
@@ -50,12 +50,12 @@ single-some (times n p) h = omega arith
 single-some (undo p) h = omega arith
 single-some (call k qs) h = omega arith
 
-all_front : (k : ℕ) (bs : List Bool) → All bs → All (take k bs)
+all_front : (k : ℕ) (bs : List Bool) → AllTrue bs → AllTrue (take k bs)
 all_front zero bs a = tt
 all_front (suc k) [] a = tt
 all_front (suc k) (b ∷ bs) a = (a.0, all_front k bs a.1)
 
-front_begins : (s : Source) (ts : List Token) (k : ℕ) → text_of s ≡ ts → All (checks_of s) → length ts ≤ 4096 → k ≤ length ts → Begins (take k ts)
+front_begins : (s : Source) (ts : List Token) (k : ℕ) → text_of s ≡ ts → AllTrue (checks_of s) → length ts ≤ 4096 → k ≤ length ts → Begins (take k ts)
 front_begins s ts k e a brief within = record {
   more = drop k ts;
   source = s;
@@ -107,7 +107,7 @@ module _ (limit : ℕ) (bs : List ℕ) (ts : List Token) (i : ℕ) where
       let few : i < 4096 = omega (arith, o.brief) in
       let here = subst Begins (one_more inside) (front_begins (over-source limit o) ts (i + 1) o.text o.fine o.brief (omega arith)) in
       let r = reads us (runs 0 begins 0 us) refl (begins_less us t here) in
-      sym (next-is limit bs ts i inside few r.0 r.1) ∙ cond_true _ _ _ (taken r.0 r.1 here)
+      sym (next-is limit bs ts i inside few r.0 r.1) ∙ cond-true _ _ _ (taken r.0 r.1 here)
 
   wrong_large : (s : State) (large : Bool) → too_large bs i t ≡ large → Wrong us t (fault_of s t) → Wrong us t (cond large NumberTooLarge (fault_of s t))
   wrong_large s true e w = is-other t (and_parts (is t Other) (digits_from false (drop _ bs)) e).0
@@ -120,7 +120,7 @@ module _ (limit : ℕ) (bs : List ℕ) (ts : List Token) (i : ℕ) where
   sign_read : (s : State) → runs 0 begins 0 us ≡ Ok s → Unread ts i → i < length ts → i < 4096 → Wrong us t (fault_at limit bs ts i)
   sign_read s e u inside few =
       let off = not_taken s e u inside few in
-      subst (Wrong us t) (sym (cond_false _ _ _ off) ∙ next-is limit bs ts i inside few s e) (wrong_large s (too_large bs i t) refl (wrong_of us s t e (short inside few) off))
+      subst (Wrong us t) (sym (cond-false _ _ _ off) ∙ next-is limit bs ts i inside few s e) (wrong_large s (too_large bs i t) refl (wrong_of us s t e (short inside few) off))
 
   sign-is : Unread ts i → i < length ts → i < 4096 → Wrong us t (fault_at limit bs ts i)
   sign-is u inside few = let r = reads us (runs 0 begins 0 us) refl u.begins in sign_read r.0 r.1 u inside few

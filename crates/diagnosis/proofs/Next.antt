@@ -1,12 +1,12 @@
 -- What a reader takes next is what a text can go on with.
 use Rattle.std.proofs.Common.{◌≡◌, ℕ, zero, suc, ◌+◌, ◌<◌, ◌≤◌, Bool, true, false, List, [], ◌∷◌, ◌++◌, length, take, is_some, Some, None, Ok, Err, filter, Option, sym, refl, ap, ◌∙◌, subst, true≢false, append_assoc, arith, length-append}
 use mathlib.Core.Bool.{false≢true}
-use Rattle.std.proofs.lemmas.Bool.{cond_true, cond_false}
+use Rattle.std.proofs.lemmas.Bool.{cond-true, cond-false}
 use Rattle.circuit.specs.declared.refusal.Refusal.{Refusal}
 use Rattle.circuit.specs.declared.refusal.Refusal.TheVariants.{Text}
 use Rattle.text.specs.declared.token.Token.{Token}
 use Rattle.text.specs.Accept.{accepts}
-use Rattle.text.specs.Program.{known, checks, blocks_checks, All, checks_of, Begins}
+use Rattle.text.specs.Program.{known, checks, blocks_checks, AllTrue, checks_of, Begins}
 use Rattle.text.specs.Reading.{State, step, follow, runs, begins, finished, complete}
 use Rattle.text.specs.Spelling.{Spells}
 use Rattle.text.proofs.Accepts.{accepts_any}
@@ -63,7 +63,7 @@ refused_inside s i (t ∷ ts) r e = go (step 0 i s t) refl e (λ n g. refused_in
   go None f h ih = record { place = i; is = (let z : Text i ≡ r = cc in sym z); inside = omega arith }
   go (Some n) f h ih = let d = ih n h in record { place = d.place; is = d.is; inside = omega (arith, d.inside) }
 
-all_less : (k : ℕ) (bs : List Bool) → All (take (suc k) bs) → All (take k bs)
+all_less : (k : ℕ) (bs : List Bool) → AllTrue (take (suc k) bs) → AllTrue (take k bs)
 all_less zero bs a = tt
 all_less (suc k) [] a = tt
 all_less (suc k) (b ∷ bs) a = (a.0, all_less k bs a.1)
@@ -75,7 +75,7 @@ begins_less us t b =
       more = t ∷ b.more;
       source = b.source;
       text = b.text ∙ append_assoc us (t ∷ []) b.more;
-      fine = all_less (length us) (checks_of b.source) (subst (λ k. All (take k (checks_of b.source))) n b.fine);
+      fine = all_less (length us) (checks_of b.source) (subst (λ k. AllTrue (take k (checks_of b.source))) n b.fine);
       brief = omega (arith, b.brief);
     }
 
@@ -124,7 +124,7 @@ module _ (us : List Token) where
   pub end_read : (s : State) → runs 0 begins 0 us ≡ Ok s → length us ≤ 4096 → IsReadable us (complete s)
   end_read s e brief = record {
     may = λ f.
-        let w = whole 0 us s (short 0 us brief ∙ ap (finished (length us)) e ∙ cond_true _ _ _ f) in
+        let w = whole 0 us s (short 0 us brief ∙ ap (finished (length us)) e ∙ cond-true _ _ _ f) in
         record { source = record { blocks = w.blocks; program = w.program }; text = w.text; fine = all_append (blocks_checks w.blocks) (checks 256 (known w.blocks) w.program) w.fine-blocks w.fine; brief = brief };
-    all = λ b. let x = source-reads b in not_false (complete s) (λ no. differ _ x.0 (Text (length us)) x.1 (ap (finished (length us)) e ∙ cond_false _ _ _ no));
+    all = λ b. let x = source-reads b in not_false (complete s) (λ no. differ _ x.0 (Text (length us)) x.1 (ap (finished (length us)) e ∙ cond-false _ _ _ no));
   }

@@ -1,7 +1,7 @@
 -- What is said of a sign that cannot come next holds of it.
 use Rattle.std.proofs.Common.{◌≡◌, ℕ, ◌<◌, ◌≤◌, Bool, true, false, cond, not, ◌&&◌, eqb, ltb, List, [], ◌∷◌, ◌++◌, length, is_some, Some, None, Ok, Option, sym, refl, ap, ◌∙◌, subst, true≢false, arith}
 use mathlib.Core.Bool.{false≢true}
-use Rattle.std.proofs.lemmas.Bool.{ltb-true, ltb-false, eqb-true, cond_false}
+use Rattle.std.proofs.lemmas.Bool.{ltb-true, ltb-false, eqb-true, cond-false}
 use Rattle.text.specs.declared.token.Token.{Token}
 use Rattle.text.specs.declared.token.Token.TheVariants.{Turn, Of, Mix, Flip, If, Device, Joined, Lay, Undo, Times, Block, Call, On, Number, Open, Close, Semicolon, Other}
 use Rattle.text.specs.declared.statement.Part.{Part}
@@ -80,7 +80,7 @@ module _ (us : List Token) (s : State) (t : Token) (read : runs 0 begins 0 us �
   fails false q f some e = refl
 
   full : (b : Bool) (k q : ℕ) → ltb (length s.names) (size_of s k) ≡ false → is_some (act 0 s (on_number (cond b (Some q) None) (λ m. move.Name k m))) ≡ true → ⊥
-  full true k q e h = false≢true (sym (ap is_some (cond_false _ _ _ e)) ∙ h)
+  full true k q e h = false≢true (sym (ap is_some (cond-false _ _ _ e)) ∙ h)
   full false k q e h = false≢true h
 
   next_one : (b : Bool) → is_some (act 0 s (cond b (move.Go BlockOf) move.Refuse)) ≡ true → b ≡ true

@@ -4,7 +4,7 @@ use Rattle.std.specs.List.{ContainsAt as Has}
 use Rattle.text.specs.declared.token.Token.{Token}
 use Rattle.text.specs.declared.token.Token.TheVariants.{Turn, Of, Mix, Flip, If, Device, Joined, Lay, Undo, Times, Block, Call, On, Number, Open, Close, Semicolon, Other}
 use Rattle.text.specs.Move.{number_in}
-use Rattle.text.specs.Program.{Source, text_of, checks_of, All, Begins}
+use Rattle.text.specs.Program.{Source, text_of, checks_of, AllTrue, Begins}
 use Rattle.text.specs.Spelling.{Spells}
 
 -- ---- what could stand there
@@ -32,7 +32,7 @@ CouldStand bs i out = (ts : List Token) → Spells bs ts → CouldFollow (take i
 pub record Readable (ts : List Token) : Type 0 where
   pub source : Source
   pub text : text_of source ≡ ts
-  pub fine : All (checks_of source)
+  pub fine : AllTrue (checks_of source)
   pub brief : length ts ≤ 4096
 
 -- whether these signs are a text that can be read

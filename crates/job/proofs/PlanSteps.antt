@@ -2,7 +2,7 @@
 use Rattle.std.proofs.Common.{◌≡◌, ℕ, ◌+◌, ◌-◌, ◌<◌, ◌≤◌, true, false, eqb, List, [], ◌∷◌, ◌++◌, length, get_or, take, drop, Some, None, Err, Option, sym, refl, ap, ◌∙◌, append_assoc, arith}
 use Rattle.std.proofs.lemmas.List.Edits.{between_more, between_none}
 use Rattle.std.proofs.lemmas.List.{at_drop_all, at_drop_more, nil_from_length, take_rest}
-use Rattle.std.proofs.lemmas.Bool.{cond_true, cond_false, eqb-true}
+use Rattle.std.proofs.lemmas.Bool.{cond-true, cond-false, eqb-true}
 use Rattle.std.proofs.lemmas.Bool.Decides.{nat_tests}
 use Rattle.std.specs.List.{between}
 use Rattle.text.specs.Cut.{cut}
@@ -52,11 +52,11 @@ module _ (bs : List ℕ) (start i : ℕ) (from : start ≤ i) (more : i < length
   -- a byte of a line
   pub line-more : eqb (get_or bs i 0) 10 ≡ false → follow k (lines (between start (i + 1) bs) (drop (i + 1) bs)) s ≡ follow k (lines (between start i bs) (drop i bs)) s
   line-more e = ap (λ ls. follow k ls s) (ap (λ l. lines l (drop (i + 1) bs)) (between_more bs start i 0 from more)
-      ∙ sym (at_drop_more (lines (between start i bs)) bs i 0 more ∙ cond_false _ _ _ e))
+      ∙ sym (at_drop_more (lines (between start i bs)) bs i 0 more ∙ cond-false _ _ _ e))
 
   -- a line that ends here
   pub line-ends : eqb (get_or bs i 0) 10 ≡ true → between start i bs ∷ lines (between (i + 1) (i + 1) bs) (drop (i + 1) bs) ≡ lines (between start i bs) (drop i bs)
-  line-ends e = ap (λ l. between start i bs ∷ lines l (drop (i + 1) bs)) (between_none bs (i + 1)) ∙ sym (at_drop_more (lines (between start i bs)) bs i 0 more ∙ cond_true _ _ _ e)
+  line-ends e = ap (λ l. between start i bs ∷ lines l (drop (i + 1) bs)) (between_none bs (i + 1)) ∙ sym (at_drop_more (lines (between start i bs)) bs i 0 more ∙ cond-true _ _ _ e)
 
   pub line-done : eqb (get_or bs i 0) 10 ≡ true → (n : Known) → says (cut [] (between start i bs)) s ≡ Some n → follow (k + 1) (lines (between (i + 1) (i + 1) bs) (drop (i + 1) bs)) n ≡ follow k (lines (between start i bs) (drop i bs)) s
   line-done e n f = sym (ap (λ ls. follow k ls s) (sym (line-ends e)) ∙ ap (λ o. goes_on o k (follow (k + 1) (lines (between (i + 1) (i + 1) bs) (drop (i + 1) bs)))) f)

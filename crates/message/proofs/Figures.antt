@@ -2,7 +2,7 @@
 use Rattle.std.proofs.Common.{◌≡◌, ℕ, ◌+◌, ◌-◌, ◌*◌, ◌%◌, ◌^◌, ◌<◌, ◌≤◌, true, cond, ◌&&◌, leb, List, [], ◌∷◌, ◌++◌, length, decimal, refl, ap, ◌∙◌, subst, arith, length-append}
 use Rattle.std.proofs.lemmas.Fmt.{decimal_by_steps}
 use Rattle.std.proofs.lemmas.Bool.Decides.{nat_tests}
-use Rattle.std.proofs.lemmas.Bool.{cond_true, le-leb}
+use Rattle.std.proofs.lemmas.Bool.{cond-true, le-leb}
 use Rattle.text.specs.declared.token.Token.{Token}
 use Rattle.text.specs.declared.token.Token.TheVariants.{Number, Other}
 use Rattle.text.specs.declared.token.Class.TheVariants.{Alphanumeric}
@@ -47,7 +47,7 @@ no_word : (b : ℕ) (w : List ℕ) → 48 ≤ b → b ≤ 57 → word_of (b ∷ 
 no_word b w l h = grind (arith, nat_tests)
 
 says-number : (w : List ℕ) (n : ℕ) → n < 256 → digits w ≡ true → value 0 w ≡ n → number_of w ≡ Number n
-says-number w n h d e = ap (λ t. cond (t && leb (value 0 w) 255) (Number (value 0 w)) Other) d ∙ ap (λ k. cond (leb k 255) (Number k) Other) e ∙ cond_true _ _ _ (le-leb n 255 (omega arith))
+says-number w n h d e = ap (λ t. cond (t && leb (value 0 w) 255) (Number (value 0 w)) Other) d ∙ ap (λ k. cond (leb k 255) (Number k) Other) e ∙ cond-true _ _ _ (le-leb n 255 (omega arith))
 
 written-word : (n : ℕ) (w bs : List ℕ) (ts : List Token) → n < 256 → Writes n w → Stops bs → Spells bs ts → Spells (w ++ bs) (Number n ∷ ts)
 written-word n [] bs ts h f stop s = absurd (omega (arith, f.0))

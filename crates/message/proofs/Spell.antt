@@ -88,14 +88,14 @@ flat-row : (ks : List Known) (gs : List Gate) → flat ks (row gs) ≡ gs
 flat-row ks [] = refl
 flat-row ks (g ∷ gs) = ap (λ hs. g ∷ hs) (flat-row ks gs)
 
-gate-fine : (g : Gate) → Small g → program.All (gate_checks 256 g)
+gate-fine : (g : Gate) → Small g → program.AllTrue (gate_checks 256 g)
 gate-fine (Phase m q) h = (refl, (refl, (refl, (lt-ltb q 256 h.1, (refl, tt)))))
 gate-fine (Hadamard q) h = (refl, (lt-ltb q 256 h, (refl, tt)))
 gate-fine (Not q) h = (refl, (lt-ltb q 256 h, (refl, tt)))
 gate-fine (ControlledNot c q) h = (refl, (lt-ltb q 256 h.1, (refl, (lt-ltb c 256 h.0, (refl, tt)))))
 gate-fine (Toffoli c d q) h = (refl, (lt-ltb q 256 h.2, (refl, (lt-ltb c 256 h.0, (lt-ltb d 256 h.1, (refl, tt))))))
 
-row_fine : (ks : List Known) (gs : List Gate) → AllSmall gs → program.All (checks 256 ks (row gs))
+row_fine : (ks : List Known) (gs : List Gate) → AllSmall gs → program.AllTrue (checks 256 ks (row gs))
 row_fine ks [] h = tt
 row_fine ks (g ∷ gs) h = all_append (gate_checks 256 g) (checks 256 ks (row gs)) (gate-fine g h.0) (row_fine ks gs h.1)
 

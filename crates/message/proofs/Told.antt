@@ -1,6 +1,6 @@
 -- What is printed tells the gates and the layout.
 use Rattle.std.proofs.Common.{◌≡◌, ℕ, Bool, true, false, cond, List, [], ◌∷◌, ◌++◌, map, length, get_or, drop, codes, decimal, sym, refl, ap, ◌∙◌, subst, ap₂, append_assoc, arith}
-use Rattle.std.proofs.ByRecursion.{AllWeaker}
+use Rattle.std.proofs.ByRecursion.{All-weaker}
 use Rattle.std.specs.List.{concat}
 use Rattle.circuit.specs.declared.gate.Gate.{Gate}
 use Rattle.circuit.specs.declared.gate.Gate.TheVariants.{Phase, Hadamard, Not, ControlledNot, Toffoli}
@@ -186,6 +186,6 @@ told gs hs ps qs small small₁ bytes bytes₁ e =
 
 pub print_tells : PrintTells
 print_tells gs ps small bytes = record {
-  lines = AllWeaker Small (λ g. SaysIn 1 (statement g ++ codes "\n") (g ∷ [])) line_read gs small;
+  lines = All-weaker Small (λ g. SaysIn 1 (statement g ++ codes "\n") (g ∷ [])) line_read gs small;
   only = λ hs qs small₁ bytes₁ e. told gs hs ps qs small small₁ bytes bytes₁ e;
 }

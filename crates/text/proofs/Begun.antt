@@ -11,7 +11,7 @@ use Rattle.text.specs.declared.statement.Part.{Part}
 use Rattle.text.specs.declared.statement.Part.TheVariants.{Start, TurnBy, TurnOf, TurnQubit, MixQubit, FlipQubit, FlipMore, FlipIf, FlipTwo, Ends, UndoOpens, TimesWord, TimesOpens, CallBlock, CallOn, Naming, BlockNumber, BlockOf, BlockSize, BlockOpens}
 use Rattle.text.specs.declared.statement.Brace.{Brace}
 use Rattle.text.specs.declared.statement.Brace.TheVariants as brace
-use Rattle.text.specs.Program.{Program, nothing, gate, next, times, undo, call, Blocks, and, Source, written, count, blocks_written, text_of, Known, unknown, known, gate_checks, checks, blocks_checks, checks_of, All, Begins}
+use Rattle.text.specs.Program.{Program, nothing, gate, next, times, undo, call, Blocks, and, Source, written, count, blocks_written, text_of, Known, unknown, known, gate_checks, checks, blocks_checks, checks_of, AllTrue, Begins}
 use Rattle.text.specs.Reading.{State, Held, Row, room_in}
 use Rattle.text.proofs.Written.{kept, length-checks, length-blocks, count-known}
 use Rattle.text.proofs.Parts.{all_append, names_front, but_end, opening, so_far, FinePart}
@@ -19,10 +19,10 @@ use Rattle.text.proofs.Sound.{head, program_of, Came, Come, size-at}
 
 -- a program's signs begin with us, each of which may stand
 abbrev Begun : ℕ → List Known → Program → List Token → Type 0
-Begun n ks q us = (more : List Token) × (front : List Bool) × (rest : List Bool) × (written q ≡ us ++ more) × (checks n ks q ≡ front ++ rest) × (length front ≡ length us) × All front
+Begun n ks q us = (more : List Token) × (front : List Bool) × (rest : List Bool) × (written q ≡ us ++ more) × (checks n ks q ≡ front ++ rest) × (length front ≡ length us) × AllTrue front
 
 module _ (n : ℕ) (ks : List Known) where
-  begun-next : (p q : Program) (us : List Token) → All (checks n ks p) → Begun n ks q us → Begun n ks (next p q) (written p ++ us)
+  begun-next : (p q : Program) (us : List Token) → AllTrue (checks n ks p) → Begun n ks q us → Begun n ks (next p q) (written p ++ us)
   begun-next p q us a b = (
     b.0,
     checks n ks p ++ b.1,
@@ -53,20 +53,20 @@ module _ (n : ℕ) (ks : List Known) where
     (refl, (refl, (refl, b.6))),
   )
 
-  gate_front : (g : Gate) → All (gate_checks n g) → Begun n ks (gate g) (but_end g)
+  gate_front : (g : Gate) → AllTrue (gate_checks n g) → Begun n ks (gate g) (but_end g)
   gate_front (Phase m q) a = (Semicolon ∷ [], true ∷ true ∷ true ∷ ltb q n ∷ [], true ∷ [], refl, refl, refl, (refl, (refl, (refl, (a.1.1.1.0, tt)))))
   gate_front (Hadamard q) a = (Semicolon ∷ [], true ∷ ltb q n ∷ [], true ∷ [], refl, refl, refl, (refl, (a.1.0, tt)))
   gate_front (Not q) a = (Semicolon ∷ [], true ∷ ltb q n ∷ [], true ∷ [], refl, refl, refl, (refl, (a.1.0, tt)))
   gate_front (ControlledNot c q) a = (Semicolon ∷ [], true ∷ ltb q n ∷ true ∷ ltb c n ∷ [], true ∷ [], refl, refl, refl, (refl, (a.1.0, (refl, (a.1.1.1.0, tt)))))
   gate_front (Toffoli c d q) a = (Semicolon ∷ [], true ∷ ltb q n ∷ true ∷ ltb c n ∷ ltb d n ∷ [], true ∷ [], refl, refl, refl, (refl, (a.1.0, (refl, (a.1.1.1.0, (a.1.1.1.1.0, tt))))))
 
-pub begins_from : (s : Source) (ts more : List Token) (front rest : List Bool) → text_of s ≡ ts ++ more → checks_of s ≡ front ++ rest → length front ≡ length ts → All front → length ts ≤ 4096 → Begins ts
+pub begins_from : (s : Source) (ts more : List Token) (front rest : List Bool) → text_of s ≡ ts ++ more → checks_of s ≡ front ++ rest → length front ≡ length ts → AllTrue front → length ts ≤ 4096 → Begins ts
 begins_from s ts more front rest e f same a brief = record {
   more = more;
   source = s;
   text = e;
   brief = brief;
-  fine = subst All (sym (ap (take (length ts)) f ∙ ap (λ k. take k (front ++ rest)) (sym same) ∙ take-append_seam front rest)) a;
+  fine = subst AllTrue (sym (ap (take (length ts)) f ∙ ap (λ k. take k (front ++ rest)) (sym same) ∙ take-append_seam front rest)) a;
 }
 
 -- inside of braces that are open
@@ -88,7 +88,7 @@ module _ (limit : ℕ) (bs : Blocks) (inside : Option ℕ) where
       )
 
 -- inside of a block that is open
-begun-inside : (bs : Blocks) (inside : Option ℕ) (r : Program) (vs ts : List Token) → All (blocks_checks bs) → Begun (room_in inside) (known bs) r vs → head bs inside ++ vs ≡ ts → length ts ≤ 4096 → Begins ts
+begun-inside : (bs : Blocks) (inside : Option ℕ) (r : Program) (vs ts : List Token) → AllTrue (blocks_checks bs) → Begun (room_in inside) (known bs) r vs → head bs inside ++ vs ≡ ts → length ts ≤ 4096 → Begins ts
 begun-inside bs None r vs ts a b e brief =
     begins_from (record { blocks = bs; program = r }) ts b.0 (blocks_checks bs ++ b.1) b.2
     (ap (λ l. blocks_written bs ++ l) b.3 ∙ sym (append_assoc (blocks_written bs) vs b.0) ∙ ap (λ l. l ++ b.0) e)
@@ -122,7 +122,7 @@ module _ (limit : ℕ) (s : State) (ts : List Token) (brief : length ts ≤ 4096
       begun-inside c.bs s.inside f.0 f.1 ts c.fine f.2 (f.3 ∙ e) brief
 
   -- the beginning of a block
-  block : (m : ℕ) (us more : List Token) (front rest : List Bool) → s.fresh ≡ true → c.read ++ us ≡ ts → token.Block ∷ Number (length ks) ∷ token.Of ∷ Number m ∷ Open ∷ Close ∷ [] ≡ us ++ more → true ∷ true ∷ true ∷ true ∷ true ∷ true ∷ [] ≡ front ++ rest → length front ≡ length us → All front → Begins ts
+  block : (m : ℕ) (us more : List Token) (front rest : List Bool) → s.fresh ≡ true → c.read ++ us ≡ ts → token.Block ∷ Number (length ks) ∷ token.Of ∷ Number m ∷ Open ∷ Close ∷ [] ≡ us ++ more → true ∷ true ∷ true ∷ true ∷ true ∷ true ∷ [] ≡ front ++ rest → length front ≡ length us → AllTrue front → Begins ts
   block m us more front rest f e written-so checked-so same a =
       let clean = c.fresh f in
       let whole : blocks_written c.bs ++ us ≡ ts = ap (λ r. r ++ us) (sym clean.2) ∙ e in

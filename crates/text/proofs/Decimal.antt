@@ -2,7 +2,7 @@
 use Rattle.std.proofs.Common.{◌≡◌, ℕ, ◌+◌, ◌-◌, ◌*◌, ◌<◌, ◌≤◌, Bool, true, false, cond, ◌&&◌, leb, List, [], ◌∷◌, length, get_or, drop, Some, None, Option, sym, refl, ap, ◌∙◌, arith}
 use Rattle.std.proofs.lemmas.List.{at_drop_more}
 use Rattle.std.proofs.lemmas.Bool.Decides.{nat_tests}
-use Rattle.std.proofs.lemmas.Bool.{cond_both, cond_true, le-leb, leb-true, leb-false}
+use Rattle.std.proofs.lemmas.Bool.{cond_both, cond-true, le-leb, leb-true, leb-false}
 use Rattle.text.specs.declared.token.Token.{Token}
 use Rattle.text.specs.declared.token.Token.TheVariants.{Number, Other}
 use Rattle.text.specs.Spelling.{digit, digits, value, number_of}
@@ -30,7 +30,7 @@ valued_more true m w ih =
     (λ e. let big = value_grows m w in let small = leb-false _ _ e in grind (arith, nat_tests))
 
 valued : (n : ℕ) (w : List ℕ) → n ≤ 255 → decimal n w ≡ Valued n w
-valued n [] h = sym (cond_true _ _ _ (le-leb n 255 h))
+valued n [] h = sym (cond-true _ _ _ (le-leb n 255 h))
 valued n (b ∷ w) h = valued_more (digit b) (10 * n + (b - 48)) w (valued (10 * n + (b - 48)) w)
 
 pub decimal-is : (w : List ℕ) → decimal 0 w ≡ number_of w

@@ -7,7 +7,7 @@ use Rattle.circuit.specs.declared.gate.Gate.{Gate}
 use Rattle.circuit.specs.declared.refusal.Refusal.{Refusal}
 use Rattle.circuit.specs.declared.refusal.Refusal.TheVariants.{Text}
 use Rattle.text.specs.declared.token.Token.{Token}
-use Rattle.text.specs.Program.{Program, Blocks, Source, blocks_written, written, text_of, flat, known, checks, blocks_checks, checks_of, All, width, Says, Begins, Unread, Over, Refuses, SaysOne, RefusesOne, SaysOrRefuses}
+use Rattle.text.specs.Program.{Program, Blocks, Source, blocks_written, written, text_of, flat, known, checks, blocks_checks, checks_of, AllTrue, width, Says, Begins, Unread, Over, Refuses, SaysOne, RefusesOne, SaysOrRefuses}
 use Rattle.text.specs.Reading.{State, Held, Row, capped, room_in, is_start, no_braces, outside, between, complete, step, follow, runs, begins, finished, ended, overlong, reading}
 use Rattle.text.proofs.Rows.{cap_fits, cap_over}
 use Rattle.text.proofs.Steps.{long, short}
@@ -24,14 +24,14 @@ module _ (limit : ℕ) where
     pub blocks : Blocks
     pub program : Program
     pub text : blocks_written blocks ++ written program ≡ ts
-    pub fine-blocks : All (blocks_checks blocks)
-    pub fine : All (checks 256 (known blocks) program)
+    pub fine-blocks : AllTrue (blocks_checks blocks)
+    pub fine : AllTrue (checks 256 (known blocks) program)
     pub row : capped limit (flat (known blocks) program) ≡ s.row
     pub wide : width program ≡ s.wide
     pub placed : Placed limit blocks None program s.fits
     pub brief : length ts ≤ 4096
 
-  whole_from : (s : State) (ts : List Token) (bs : Blocks) (hs : List Held) (inside : Option ℕ) → no_braces hs ≡ true → outside inside ≡ true → All (blocks_checks bs) → Came limit bs inside hs s.row s.wide s.fits ts → length ts ≤ 4096 → Whole s ts
+  whole_from : (s : State) (ts : List Token) (bs : Blocks) (hs : List Held) (inside : Option ℕ) → no_braces hs ≡ true → outside inside ≡ true → AllTrue (blocks_checks bs) → Came limit bs inside hs s.row s.wide s.fits ts → length ts ≤ 4096 → Whole s ts
   whole_from s ts bs [] None e f a c brief = record { blocks = bs; program = c.0; text = c.2; fine-blocks = a; fine = c.1; row = c.3; wide = c.4; placed = c.5; brief = brief }
   whole_from s ts bs [] (Some n) e f a c brief = absurd (false≢true f)
   whole_from s ts bs (h ∷ hs) inside e f a c brief = absurd (false≢true e)
@@ -195,13 +195,13 @@ module _ (limit : ℕ) where
 
 -- ---- one place only
 
-all_take_any : (k : ℕ) (bs : List Bool) → All bs → All (take k bs)
+all_take_any : (k : ℕ) (bs : List Bool) → AllTrue bs → AllTrue (take k bs)
 all_take_any zero bs a = tt
 all_take_any (suc k) [] a = tt
 all_take_any (suc k) (b ∷ bs) a = (a.0, all_take_any k bs a.1)
 
-all_take : (k m : ℕ) (bs : List Bool) → k ≤ m → All (take m bs) → All (take k bs)
-all_take k m bs h a = subst All (take-take k m bs h) (all_take_any k (take m bs) a)
+all_take : (k m : ℕ) (bs : List Bool) → k ≤ m → AllTrue (take m bs) → AllTrue (take k bs)
+all_take k m bs h a = subst AllTrue (take-take k m bs h) (all_take_any k (take m bs) a)
 
 front_begins : (k : ℕ) (ts : List Token) → k ≤ length ts → Begins ts → Begins (take k ts)
 front_begins k ts h b =
@@ -210,7 +210,7 @@ front_begins k ts h b =
       more = drop k ts ++ b.more;
       source = b.source;
       text = b.text ∙ ap (λ r. r ++ b.more) (sym (take-append-drop k ts)) ∙ append_assoc (take k ts) (drop k ts) b.more;
-      fine = subst (λ m. All (take m (checks_of b.source))) (sym n) (all_take k (length ts) (checks_of b.source) h b.fine);
+      fine = subst (λ m. AllTrue (take m (checks_of b.source))) (sym n) (all_take k (length ts) (checks_of b.source) h b.fine);
       brief = omega (arith, b.brief, n);
     }
 
@@ -220,7 +220,7 @@ unread_before ts i j u v lt =
     (subst Begins (take-take (i + 1) j ts (omega arith)) (front_begins (i + 1) (take j ts) (omega (arith, length-take-le j ts v.inside)) v.begins))
 
 -- what can be read is not refused
-unread_source : (ts : List Token) (i : ℕ) (s : Source) → Unread ts i → text_of s ≡ ts → All (checks_of s) → length ts ≤ 4096 → ⊥
+unread_source : (ts : List Token) (i : ℕ) (s : Source) → Unread ts i → text_of s ≡ ts → AllTrue (checks_of s) → length ts ≤ 4096 → ⊥
 unread_source ts i s u e a brief =
     ⊎_elim
     (λ lt. u.stops lt (front_begins (i + 1) ts (omega arith) (record { more = []; source = s; text = e ∙ sym (append-nil ts); fine = all_take_any (length ts) (checks_of s) a; brief = brief })))

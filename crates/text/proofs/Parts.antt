@@ -13,11 +13,11 @@ use Rattle.text.specs.declared.statement.Brace.TheVariants as brace
 use Rattle.text.specs.declared.statement.Move.{Move}
 use Rattle.text.specs.declared.statement.Move.TheVariants as move
 use Rattle.text.specs.declared.statement.Place.{Place}
-use Rattle.text.specs.Program.{spelt, gate_checks, has, names_checks, All}
+use Rattle.text.specs.Program.{spelt, gate_checks, has, names_checks, AllTrue}
 use Rattle.text.specs.Move.{number_in, below, on_number, word, is, moved}
 use Rattle.text.specs.Reading.{is_start}
 
-pub all_append : (xs ys : List Bool) → All xs → All ys → All (xs ++ ys)
+pub all_append : (xs ys : List Bool) → AllTrue xs → AllTrue ys → AllTrue (xs ++ ys)
 all_append [] ys a b = b
 all_append (x ∷ xs) ys a b = (a.0, all_append xs ys a.1 b)
 
@@ -35,12 +35,12 @@ pub differ_more : (n size : ℕ) (ns qs : List ℕ) (q : ℕ) → Differ n size 
 differ_more n size ns [] q d e = (ap (λ l. may_name n size l q) (sym (append-nil ns)) ∙ e, tt)
 differ_more n size ns (r ∷ qs) q d e = (d.0, differ_more n size (ns ++ r ∷ []) qs q d.1 (ap (λ l. may_name n size l q) (append_assoc ns (r ∷ []) qs) ∙ e))
 
-pub differ_all : (n size : ℕ) (ns qs : List ℕ) → Differ n size ns qs → eqb (length (ns ++ qs)) size ≡ true → All (names_checks n size ns qs)
+pub differ_all : (n size : ℕ) (ns qs : List ℕ) → Differ n size ns qs → eqb (length (ns ++ qs)) size ≡ true → AllTrue (names_checks n size ns qs)
 differ_all n size ns [] d e = (ap (λ l. eqb (length l) size) (sym (append-nil ns)) ∙ e, tt)
 differ_all n size ns (q ∷ qs) d e = (d.0, differ_all n size (ns ++ q ∷ []) qs d.1 (ap (λ l. eqb (length l) size) (append_assoc ns (q ∷ []) qs) ∙ e))
 
 -- all of them but the mark at the end
-pub names_front : (n size : ℕ) (ns qs : List ℕ) → Differ n size ns qs → (front : List Bool) × (b : Bool) × (names_checks n size ns qs ≡ front ++ b ∷ []) × (length front ≡ length (map Number qs)) × All front
+pub names_front : (n size : ℕ) (ns qs : List ℕ) → Differ n size ns qs → (front : List Bool) × (b : Bool) × (names_checks n size ns qs ≡ front ++ b ∷ []) × (length front ≡ length (map Number qs)) × AllTrue front
 names_front n size ns [] d = ([], eqb (length ns) size, refl, refl, tt)
 names_front n size ns (q ∷ qs) d =
     let r = names_front n size (ns ++ q ∷ []) qs d.1 in
@@ -101,7 +101,7 @@ module _ (n k : ℕ) (size : ℕ → ℕ) (fresh : Bool) (ns : List ℕ) where
   FinePart (FlipMore q) = (ns ≡ []) × (ltb q n ≡ true)
   FinePart (FlipIf q) = (ns ≡ []) × (ltb q n ≡ true)
   FinePart (FlipTwo c q) = (ns ≡ []) × (ltb q n ≡ true) × (ltb c n ≡ true)
-  FinePart (Ends g) = (ns ≡ []) × All (gate_checks n g)
+  FinePart (Ends g) = (ns ≡ []) × AllTrue (gate_checks n g)
   FinePart UndoOpens = ns ≡ []
   FinePart (TimesWord m) = ns ≡ []
   FinePart (TimesOpens m) = ns ≡ []
@@ -115,7 +115,7 @@ module _ (n k : ℕ) (size : ℕ → ℕ) (fresh : Bool) (ns : List ℕ) where
 
   abbrev pub Told : Part → Token → Move → Type 0
   Told p u (move.Go r) = (so_far r ≡ so_far p ++ u ∷ []) × (is_start r ≡ false) × FinePart r
-  Told p u (move.Say g) = (spelt g ≡ so_far p ++ u ∷ []) × All (gate_checks n g)
+  Told p u (move.Say g) = (spelt g ≡ so_far p ++ u ∷ []) × AllTrue (gate_checks n g)
   Told p u (move.Open b) = opening b ≡ so_far p ++ u ∷ []
   Told p u (move.Enter m) = (Block ∷ Number k ∷ Of ∷ Number m ∷ Open ∷ [] ≡ so_far p ++ u ∷ []) × (fresh ≡ true)
   Told p u move.Close = (so_far p ≡ []) × (u ≡ Close)

@@ -1,13 +1,13 @@
 -- Rows that are kept up to a limit.
 use Rattle.std.proofs.Common.{◌≡◌, ℕ, zero, suc, ◌+◌, ◌-◌, ◌*◌, ◌<◌, ◌≤◌, true, false, List, [], ◌∷◌, ◌++◌, length, get_or, take, drop, Some, None, vec_items, sym, refl, ap, ◌∙◌, ⊎_elim, append_assoc, append-nil, suc-mul, mul_comm, add-one, arith, length-append}
 use Rattle.std.proofs.lemmas.List.{drop_more, take_more}
-use Rattle.std.proofs.lemmas.Bool.{cases_lt, lt-leb, le-leb, cond_true, cond_false}
+use Rattle.std.proofs.lemmas.Bool.{cases_lt, lt-leb, le-leb, cond-true, cond-false}
 use Rattle.circuit.specs.declared.gate.Gate.{Gate}
 use Rattle.laws.specs.Undo.{undone, backwards}
 use Rattle.laws.specs.Rename.{renamed, all_renamed}
 use Rattle.text.specs.declared.statement.Brace.{Brace}
 use Rattle.text.specs.declared.statement.Brace.TheVariants.{Undo, Times}
-use Rattle.text.specs.declared.row.Row.{Row as Row-kept}
+use Rattle.text.specs.declared.row.Row.{Row as RowKept}
 use Rattle.text.specs.Program.{repeated}
 use Rattle.text.specs.Reading.{Row, capped, put, row_of, zero_times, made_of, factor, braced}
 
@@ -58,18 +58,18 @@ renamed-none f = refl
 pub renamed-more : (f : ℕ → ℕ) (gs : List Gate) (i : ℕ) (d : Gate) → i < length gs → all_renamed f (take (i + 1) gs) ≡ all_renamed f (take i gs) ++ renamed f (get_or gs i d) ∷ []
 renamed-more f gs i d h = ap (all_renamed f) (take_more gs i d h) ∙ renamed-append f (take i gs) (get_or gs i d ∷ []) ∙ ap (λ r. all_renamed f (take i gs) ++ r) (renamed-one f (get_or gs i d))
 
-pub row_good : (r : Row-kept) → r.over ≡ false → row_of r ≡ Some (vec_items r.gates)
-row_good r h = cond_false _ _ _ h
+pub row_good : (r : RowKept) → r.over ≡ false → row_of r ≡ Some (vec_items r.gates)
+row_good r h = cond-false _ _ _ h
 
-pub row-over : (r : Row-kept) → r.over ≡ true → row_of r ≡ None
-row-over r h = cond_true _ _ _ h
+pub row-over : (r : RowKept) → r.over ≡ true → row_of r ≡ None
+row-over r h = cond-true _ _ _ h
 
 module _ (limit : ℕ) where
   pub cap_fits : (gs : List Gate) → length gs ≤ limit → capped limit gs ≡ Some gs
-  cap_fits gs h = cond_true _ _ _ (le-leb (length gs) limit h)
+  cap_fits gs h = cond-true _ _ _ (le-leb (length gs) limit h)
 
   pub cap_over : (gs : List Gate) → limit < length gs → capped limit gs ≡ None
-  cap_over gs h = cond_false _ _ _ (lt-leb (length gs) limit h)
+  cap_over gs h = cond-false _ _ _ (lt-leb (length gs) limit h)
 
   pub cap_none : capped limit [] ≡ Some []
   cap_none = cap_fits [] (omega arith)
@@ -107,4 +107,4 @@ module _ (limit : ℕ) where
   braced-capped (Times (suc n)) x gs = put-capped (repeated (suc n)) x gs (omega (arith, length-append gs (repeated n gs)))
 
   pub braced-put : (b : Brace) (r s : Row) → zero_times b ≡ false → braced limit b r s ≡ put limit (made_of b) r s
-  braced-put b r s e = cond_false _ _ _ e
+  braced-put b r s e = cond-false _ _ _ e

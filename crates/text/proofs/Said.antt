@@ -2,13 +2,13 @@
 use Rattle.std.proofs.Common.{◌≡◌, ℕ, zero, suc, ◌+◌, ◌<◌, ◌≤◌, Bool, true, false, cond, List, [], ◌∷◌, ◌++◌, map, length, take, Some, None, Ok, Err, Result, sym, refl, ap, ◌∙◌, append_assoc, arith, length-append}
 use mathlib.Core.Bool.{false≢true}
 use Rattle.std.proofs.lemmas.List.{length-map, map_push}
-use Rattle.std.proofs.lemmas.Bool.{eq-eqb, cond_true}
+use Rattle.std.proofs.lemmas.Bool.{eq-eqb, cond-true}
 use Rattle.circuit.specs.declared.gate.Gate.{Gate}
 use Rattle.circuit.specs.declared.refusal.Refusal.{Refusal}
 use Rattle.circuit.specs.declared.refusal.Refusal.TheVariants.{Text}
 use Rattle.text.specs.declared.token.Token.{Token}
 use Rattle.text.specs.declared.token.Token.TheVariants as token
-use Rattle.text.specs.Program.{Program, nothing, gate, next, times, undo, call, Blocks, none, and, Source, written, count, blocks_written, text_of, Known, flat, known, checks, blocks_checks, checks_of, All, Says, Begins, Single, Over}
+use Rattle.text.specs.Program.{Program, nothing, gate, next, times, undo, call, Blocks, none, and, Source, written, count, blocks_written, text_of, Known, flat, known, checks, blocks_checks, checks_of, AllTrue, Says, Begins, Single, Over}
 use Rattle.text.specs.Reading.{State, capped, fitting, runs, begins, finished, reading}
 use Rattle.text.proofs.Rows.{cap_none, cap_fits, cap_over}
 use Rattle.text.proofs.Steps.{short}
@@ -17,9 +17,9 @@ use Rattle.text.proofs.Written.{then, runs_append, guard, both_read, length-chec
 pub differ : {T : Type 0} (r : Result T Refusal) (x : T) (f : Refusal) → r ≡ Ok x → r ≡ Err f → ⊥
 differ r x f p q = let z : ◌≡◌ {A = ℕ} 0 1 = cc in omega arith
 
-guard_all : (i : ℕ) (bs : List Bool) (r : Result State Refusal) → All bs → guard i bs r ≡ r
+guard_all : (i : ℕ) (bs : List Bool) (r : Result State Refusal) → AllTrue bs → guard i bs r ≡ r
 guard_all i [] r a = refl
-guard_all i (b ∷ bs) r a = cond_true _ _ _ a.0 ∙ guard_all (i + 1) bs r a.1
+guard_all i (b ∷ bs) r a = cond-true _ _ _ a.0 ∙ guard_all (i + 1) bs r a.1
 
 guard_late : (i j : ℕ) (bs : List Bool) (x : State) → guard i bs (Ok x) ≡ Err (Text j) → i ≤ j
 guard_late i j [] x h = absurd (differ (Ok x) x (Text j) refl h)
@@ -27,7 +27,7 @@ guard_late i j (true ∷ bs) x h = omega (arith, guard_late (i + 1) j bs x h)
 guard_late i j (false ∷ bs) x h = let z : i ≡ j = cc in omega arith
 
 -- the fault is behind the signs that may stand
-guard_front : (i j m : ℕ) (bs : List Bool) (x : State) → All (take m bs) → guard i bs (Ok x) ≡ Err (Text j) → i + m ≤ j
+guard_front : (i j m : ℕ) (bs : List Bool) (x : State) → AllTrue (take m bs) → guard i bs (Ok x) ≡ Err (Text j) → i + m ≤ j
 guard_front i j zero bs x a h = omega (arith, guard_late i j bs x h)
 guard_front i j (suc m) [] x a h = absurd (differ (Ok x) x (Text j) refl h)
 guard_front i j (suc m) (true ∷ bs) x a h = omega (arith, guard_front (i + 1) j m bs x a.1 h)
@@ -65,7 +65,7 @@ module _ (limit : ℕ) where
       both_read limit begins 0 (blocks_written s.blocks) (written s.program) (blocks_checks s.blocks) (checks 256 (known s.blocks) s.program) (fresh_state (known s.blocks) j) (Ok (final s)) (length-blocks s.blocks) (blocks-read s.blocks)
       (ap (λ r. runs limit (at limit (map (kept limit) (known s.blocks)) None [] r true 0 j) (0 + j) (written s.program)) (sym (cap_none limit)) ∙ reads limit (known s.blocks) None s.program [] [] true 0 j (0 + j))
 
-  pub source-read : (s : Source) (ts : List Token) → text_of s ≡ ts → All (checks_of s) → length ts ≤ 4096 → reading limit ts ≡ Ok (final s)
+  pub source-read : (s : Source) (ts : List Token) → text_of s ≡ ts → AllTrue (checks_of s) → length ts ≤ 4096 → reading limit ts ≡ Ok (final s)
   source-read s ts e a brief =
       short limit ts brief ∙ ap (λ us. finished (length ts) (runs limit begins 0 us)) (sym e) ∙ ap (finished (length ts)) (source-runs s ∙ guard_all 0 (checks_of s) (Ok (final s)) a)
 

@@ -14,7 +14,7 @@ use Rattle.text.specs.declared.statement.Brace.{Brace}
 use Rattle.text.specs.declared.statement.Brace.TheVariants as brace
 use Rattle.text.specs.declared.statement.Move.{Move}
 use Rattle.text.specs.declared.statement.Move.TheVariants as move
-use Rattle.text.specs.Program.{Program, nothing, gate, next, times, undo, call, Blocks, none, and, spelt, written, count, blocks_written, Known, unknown, flat, known, gate_checks, has, checks, blocks_checks, All, width, Single}
+use Rattle.text.specs.Program.{Program, nothing, gate, next, times, undo, call, Blocks, none, and, spelt, written, count, blocks_written, Known, unknown, flat, known, gate_checks, has, checks, blocks_checks, AllTrue, width, Single}
 use Rattle.text.specs.Move.{moved}
 use Rattle.text.specs.Reading.{State, Held, Row, no_block, capped, put, room_in, place, goes_to, said, opened, entered, over_with, made_of, braced, left, closes, closed, named, called, act, is_start, no_braces, fitting, settles, step, follow, runs, begins}
 use Rattle.text.proofs.Rows.{cap_none, cap_fits, cap_over, put-capped, braced-capped, length-renamed}
@@ -48,7 +48,7 @@ single_of : (b : Brace) (p : Program) → Single (program_of b p)
 single_of brace.Undo p = tt
 single_of (brace.Times n) p = tt
 
-checks_of-brace : (n : ℕ) (ks : List Known) (b : Brace) (p : Program) → All (checks n ks p) → All (checks n ks (program_of b p))
+checks_of-brace : (n : ℕ) (ks : List Known) (b : Brace) (p : Program) → AllTrue (checks n ks p) → AllTrue (checks n ks (program_of b p))
 checks_of-brace n ks brace.Undo p a = (refl, (refl, all_append (checks n ks p) (true ∷ []) a (refl, tt)))
 checks_of-brace n ks (brace.Times m) p a = (refl, (refl, (refl, all_append (checks n ks p) (true ∷ []) a (refl, tt))))
 
@@ -63,7 +63,7 @@ module _ (limit : ℕ) where
       pub rest : Program
       pub single : Single statement
       pub text : written (next before (next statement rest)) ≡ written p
-      pub fine : All (checks (room_in inside) (known bs) (next before (next statement rest)))
+      pub fine : AllTrue (checks (room_in inside) (known bs) (next before (next statement rest)))
       pub few : length (flat (known bs) before) ≤ limit
       pub many : limit < length (flat (known bs) before ++ flat (known bs) statement)
       pub place : fits ≡ length (head bs inside ++ written before)
@@ -73,14 +73,14 @@ module _ (limit : ℕ) where
     Placed p fits = ((length (flat (known bs) p) ≤ limit) × (fits ≡ length (head bs inside ++ written p))) ⊎ Past p fits
 
     abbrev pub Came : List Held → Row → ℕ → ℕ → List Token → Type 0
-    Came [] row wide fits ts = (p : Program) × All (checks (room_in inside) (known bs) p) × (head bs inside ++ written p ≡ ts) × (capped limit (flat (known bs) p) ≡ row) × (width p ≡ wide) × Placed p fits
-    Came (h ∷ hs) row wide fits ts = (us : List Token) × (p : Program) × (w : ℕ) × Came hs h.before w fits us × All (checks (room_in inside) (known bs) p) × (us ++ (opening h.brace ++ written p) ≡ ts) × (capped limit (flat (known bs) p) ≡ row) × (max w (width p) ≡ wide)
+    Came [] row wide fits ts = (p : Program) × AllTrue (checks (room_in inside) (known bs) p) × (head bs inside ++ written p ≡ ts) × (capped limit (flat (known bs) p) ≡ row) × (width p ≡ wide) × Placed p fits
+    Came (h ∷ hs) row wide fits ts = (us : List Token) × (p : Program) × (w : ℕ) × Came hs h.before w fits us × AllTrue (checks (room_in inside) (known bs) p) × (us ++ (opening h.brace ++ written p) ≡ ts) × (capped limit (flat (known bs) p) ≡ row) × (max w (width p) ≡ wide)
 
     -- a statement q makes the row new of the row old
     abbrev Makes : Program → Row → Row → Type 0
     Makes q old new = (x : List Gate) → capped limit x ≡ old → capped limit (x ++ flat (known bs) q) ≡ new
 
-    placed-more : (p q : Program) (row : Row) (fits j : ℕ) → All (checks (room_in inside) (known bs) p) → All (checks (room_in inside) (known bs) q) → Single q → capped limit (flat (known bs) p ++ flat (known bs) q) ≡ row → j ≡ length (head bs inside ++ (written p ++ written q)) → Placed p fits → Placed (next p q) (cond (fitting row) j fits)
+    placed-more : (p q : Program) (row : Row) (fits j : ℕ) → AllTrue (checks (room_in inside) (known bs) p) → AllTrue (checks (room_in inside) (known bs) q) → Single q → capped limit (flat (known bs) p ++ flat (known bs) q) ≡ row → j ≡ length (head bs inside ++ (written p ++ written q)) → Placed p fits → Placed (next p q) (cond (fitting row) j fits)
     placed-more p q row fits j a b single e at (inl w) =
         let ks = known bs in
         ⊎_elim
@@ -108,14 +108,14 @@ module _ (limit : ℕ) where
           rest = next c.rest q;
           single = c.single;
           text = ap (λ r. written c.before ++ r) (sym (append_assoc (written c.statement) (written c.rest) (written q))) ∙ sym (append_assoc (written c.before) (written c.statement ++ written c.rest) (written q)) ∙ ap (λ r. r ++ written q) c.text;
-          fine = subst All (append_assoc (checks n ks c.before) (checks n ks c.statement ++ checks n ks c.rest) (checks n ks q) ∙ ap (λ r. checks n ks c.before ++ r) (append_assoc (checks n ks c.statement) (checks n ks c.rest) (checks n ks q))) (all_append (checks n ks (next c.before (next c.statement c.rest))) (checks n ks q) c.fine b);
+          fine = subst AllTrue (append_assoc (checks n ks c.before) (checks n ks c.statement ++ checks n ks c.rest) (checks n ks q) ∙ ap (λ r. checks n ks c.before ++ r) (append_assoc (checks n ks c.statement) (checks n ks c.rest) (checks n ks q))) (all_append (checks n ks (next c.before (next c.statement c.rest))) (checks n ks q) c.fine b);
           few = c.few;
           many = c.many;
           long = many;
           place = ap (λ r. cond (fitting r) j fits) (sym e ∙ cap_over limit (flat ks p ++ flat ks q) many) ∙ c.place;
         })
 
-    add : (hs : List Held) (row new : Row) (wide fits j : ℕ) (ts us : List Token) → Came hs row wide fits ts → (q : Program) → Single q → All (checks (room_in inside) (known bs) q) → Makes q row new → ts ++ written q ≡ us → j ≡ length us → Came hs new (max wide (width q)) (fit-after limit hs new j fits) us
+    add : (hs : List Held) (row new : Row) (wide fits j : ℕ) (ts us : List Token) → Came hs row wide fits ts → (q : Program) → Single q → AllTrue (checks (room_in inside) (known bs) q) → Makes q row new → ts ++ written q ≡ us → j ≡ length us → Came hs new (max wide (width q)) (fit-after limit hs new j fits) us
     add [] row new wide fits j ts us c q single b makes e at =
         let text : head bs inside ++ (written c.0 ++ written q) ≡ us = sym (append_assoc (head bs inside) (written c.0) (written q)) ∙ ap (λ r. r ++ written q) c.2 ∙ e in
         let n = room_in inside in (
@@ -161,7 +161,7 @@ module _ (limit : ℕ) where
   -- a state to which signs have come
   pub record Come (s : State) (ts : List Token) : Type 0 where
     pub bs : Blocks
-    pub fine : All (blocks_checks bs)
+    pub fine : AllTrue (blocks_checks bs)
     pub blocks : map (kept limit) (known bs) ≡ s.blocks
     pub read : List Token
     pub came : Came bs s.inside s.braces s.row s.wide s.fits read
@@ -199,7 +199,7 @@ module _ (limit : ℕ) where
         }
 
     -- a statement that is over
-    over_come : (q : Program) (new : Row) → Single q → All (checks (room_in s.inside) (known c.bs) q) → Makes c.bs s.inside q s.row new → c.read ++ written q ≡ ts ++ u ∷ [] → Each now (settles i (Some (over_with s new (width q))))
+    over_come : (q : Program) (new : Row) → Single q → AllTrue (checks (room_in s.inside) (known c.bs) q) → Makes c.bs s.inside q s.row new → c.read ++ written q ≡ ts ++ u ∷ [] → Each now (settles i (Some (over_with s new (width q))))
     over_come q new single a makes e = record {
       bs = c.bs;
       fine = c.fine;
@@ -211,7 +211,7 @@ module _ (limit : ℕ) where
       fresh = λ f. absurd (false≢true f);
     }
 
-    say_come : (g : Gate) → spelt g ≡ far s.part ++ u ∷ [] → All (gate_checks (room_in s.inside) g) → Each now (settles i (Some (said limit g s)))
+    say_come : (g : Gate) → spelt g ≡ far s.part ++ u ∷ [] → AllTrue (gate_checks (room_in s.inside) g) → Each now (settles i (Some (said limit g s)))
     say_come g e a =
         over_come (gate g) (put limit (λ hs. g ∷ hs) s.row (Some [])) tt a
         (λ x r. sym (put-capped limit (λ hs. g ∷ hs) x [] (omega arith)) ∙ (λ t. put limit (λ hs. g ∷ hs) (r t) (cap_none limit t)))

@@ -2,7 +2,7 @@
 use Rattle.std.proofs.Common.{◌≡◌, ℕ, suc, ◌+◌, ◌<◌, ◌≤◌, max, true, false, cond, eqb, List, [], ◌∷◌, ◌++◌, map, reverse, length, get_or, take, drop, Some, None, Err, Option, Result, sym, refl, ap, ◌∙◌, ⊎_elim, append-nil, arith, length-append}
 use mathlib.Core.List.{reverse-append}
 use Rattle.std.proofs.lemmas.List.{at_drop_more, take-append-le, get_or-map, get_or_past, length-map, length-reverse}
-use Rattle.std.proofs.lemmas.Bool.{cases_lt, lt-ltb, le-ltb, eq-eqb, ne_eqb, cond_true, cond_false}
+use Rattle.std.proofs.lemmas.Bool.{cases_lt, lt-ltb, le-ltb, eq-eqb, ne_eqb, cond-true, cond-false}
 use Rattle.circuit.specs.declared.refusal.Refusal.{Refusal}
 use Rattle.circuit.specs.declared.refusal.Refusal.TheVariants.{Text}
 use Rattle.laws.specs.Rename.{all_renamed}
@@ -36,34 +36,34 @@ has_more : (q : ℕ) (ns : List ℕ) (i : ℕ) → i < length ns → has q (drop
 has_more q ns i h = at_drop_more (has q) ns i 0 h
 
 pub has-goes : (q : ℕ) (ns : List ℕ) (i : ℕ) → i < length ns → (get_or ns i 0 ≡ q → ⊥) → has q (drop (i + 1) ns) ≡ has q (drop i ns)
-has-goes q ns i h e = sym (has_more q ns i h ∙ cond_false _ _ _ (ne_eqb (get_or ns i 0) q e))
+has-goes q ns i h e = sym (has_more q ns i h ∙ cond-false _ _ _ (ne_eqb (get_or ns i 0) q e))
 
 pub has_found : (q : ℕ) (ns : List ℕ) (i : ℕ) → i < length ns → get_or ns i 0 ≡ q → has q (drop i ns) ≡ true
-has_found q ns i h e = has_more q ns i h ∙ cond_true _ _ _ (eq-eqb (get_or ns i 0) q e)
+has_found q ns i h e = has_more q ns i h ∙ cond-true _ _ _ (eq-eqb (get_or ns i 0) q e)
 
 pub span_more : (ns : List ℕ) (i : ℕ) → i < length ns → span (drop i ns) ≡ max (suc (get_or ns i 0)) (span (drop (i + 1) ns))
 span_more ns i h = at_drop_more span ns i 0 h
 
 module _ (k : ℕ) (s : State) where
   pub named_none : (q : ℕ) → length s.blocks ≤ k → named k q s ≡ None
-  named_none q h = cond_false _ _ _ (le-ltb (length s.names) (get_or s.blocks k no_block).size (omega (arith, ap (λ b. b.size) (get_or_past s.blocks k no_block h))))
+  named_none q h = cond-false _ _ _ (le-ltb (length s.names) (get_or s.blocks k no_block).size (omega (arith, ap (λ b. b.size) (get_or_past s.blocks k no_block h))))
 
   pub named_full : (q : ℕ) → (get_or s.blocks k no_block).size ≤ length s.names → named k q s ≡ None
-  named_full q h = cond_false _ _ _ (le-ltb (length s.names) (get_or s.blocks k no_block).size h)
+  named_full q h = cond-false _ _ _ (le-ltb (length s.names) (get_or s.blocks k no_block).size h)
 
   pub named_good : (q : ℕ) → length s.names < (get_or s.blocks k no_block).size → has q s.names ≡ false → named k q s ≡ Some (record { part = Naming k; braces = s.braces; row = s.row; names = s.names ++ q ∷ []; blocks = s.blocks; inside = s.inside; fresh = s.fresh; wide = s.wide; fits = s.fits })
-  named_good q h e = cond_true _ _ _ (lt-ltb (length s.names) (get_or s.blocks k no_block).size h) ∙ cond_false _ _ _ e
+  named_good q h e = cond-true _ _ _ (lt-ltb (length s.names) (get_or s.blocks k no_block).size h) ∙ cond-false _ _ _ e
 
   module _ (limit : ℕ) where
     pub called-none : length s.blocks ≤ k → called limit k s ≡ None
-    called-none h = cond_false _ _ _ (le-ltb k (length s.blocks) h)
+    called-none h = cond-false _ _ _ (le-ltb k (length s.blocks) h)
 
     module _ (some : k < length s.blocks) where
       pub called_wrong : (length s.names ≡ (get_or s.blocks k no_block).size → ⊥) → called limit k s ≡ None
-      called_wrong h = cond_true _ _ _ (lt-ltb k (length s.blocks) some) ∙ cond_false _ _ _ (ne_eqb (length s.names) (get_or s.blocks k no_block).size h)
+      called_wrong h = cond-true _ _ _ (lt-ltb k (length s.blocks) some) ∙ cond-false _ _ _ (ne_eqb (length s.names) (get_or s.blocks k no_block).size h)
 
       pub called_good : length s.names ≡ (get_or s.blocks k no_block).size → called limit k s ≡ Some (over_with s (put limit (all_renamed (λ q. get_or s.names q 0)) s.row (get_or s.blocks k no_block).row) (span s.names))
-      called_good fit = cond_true _ _ _ (lt-ltb k (length s.blocks) some) ∙ cond_true _ _ _ (eq-eqb (length s.names) (get_or s.blocks k no_block).size fit)
+      called_good fit = cond-true _ _ _ (lt-ltb k (length s.blocks) some) ∙ cond-true _ _ _ (eq-eqb (length s.names) (get_or s.blocks k no_block).size fit)
 
 module _ (limit : ℕ) where
   -- one more sign of a text
@@ -75,10 +75,10 @@ module _ (limit : ℕ) where
     stops e = at_drop_more (runs limit s i) ts i d more ∙ ap (λ o. follow o i (λ m. runs limit m (i + 1) (drop (i + 1) ts))) e
 
   pub long : (ts : List Token) → 4096 < length ts → reading limit ts ≡ overlong (runs limit begins 0 (take 4096 ts))
-  long ts h = cond_true _ _ _ (lt-ltb 4096 (length ts) h)
+  long ts h = cond-true _ _ _ (lt-ltb 4096 (length ts) h)
 
   pub short : (ts : List Token) → length ts ≤ 4096 → reading limit ts ≡ finished (length ts) (runs limit begins 0 ts)
-  short ts h = cond_false _ _ _ (le-ltb 4096 (length ts) h)
+  short ts h = cond-false _ _ _ (le-ltb 4096 (length ts) h)
 
   -- signs past those that are looked at change nothing
   pub reading_front : (all ts : List Token) → Front 4096 all ts → reading limit ts ≡ reading limit all

@@ -1,7 +1,7 @@
 -- What is written is read back, up to the first sign that may not stand.
 use Rattle.std.proofs.Common.{◌≡◌, ℕ, suc, ◌+◌, ◌<◌, max, Bool, true, false, cond, not, ◌&&◌, eqb, ltb, List, [], ◌∷◌, ◌++◌, map, length, get_or, Some, None, Ok, Err, Option, Result, sym, refl, ap, ◌∙◌, append_assoc, append-nil, arith, length-append}
 use Rattle.std.proofs.lemmas.List.{length-map, get_or-map}
-use Rattle.std.proofs.lemmas.Bool.{lt-ltb, ltb-true, cond_true}
+use Rattle.std.proofs.lemmas.Bool.{lt-ltb, ltb-true, cond-true}
 use Rattle.circuit.specs.declared.gate.Gate.{Gate}
 use Rattle.circuit.specs.declared.gate.Gate.TheVariants.{Phase, Hadamard, Not, ControlledNot, Toffoli}
 use Rattle.circuit.specs.declared.refusal.Refusal.{Refusal}
@@ -184,7 +184,7 @@ module _ (limit : ℕ) where
 
     names-read : (k : ℕ) → k < length bs → (ns qs : List ℕ) (m : ℕ) → runs limit (naming k ns) m (map token.Number qs ++ token.Semicolon ∷ []) ≡ guard m (names_checks (room_in inside) (get_or bs k no_block).size ns qs) (Ok (said-call k (ns ++ qs) (ending m (map token.Number qs ++ token.Semicolon ∷ []))))
     names-read k some ns [] m =
-        ap (λ o. follow (settles m o) m (λ n. Ok n)) (cond_true _ _ _ (lt-ltb k (length bs) some))
+        ap (λ o. follow (settles m o) m (λ n. Ok n)) (cond-true _ _ _ (lt-ltb k (length bs) some))
         ∙ step-one (eqb (length ns) (get_or bs k no_block).size) (over_with (naming k ns) (called-row k ns) (span ns)) m (λ n. Ok n)
         ∙ ap (λ l. cond (eqb (length ns) (get_or bs k no_block).size) (Ok (said-call k l (m + 1))) (Err (Text m))) (sym (append-nil ns))
     names-read k some ns (q ∷ qs) m =

@@ -132,9 +132,9 @@ blocks_checks (and bs n p) = blocks_checks bs ++ (true ∷ true ∷ true ∷ tru
 abbrev pub checks_of : Source → List Bool
 checks_of s = blocks_checks s.blocks ++ checks 256 (known s.blocks) s.program
 
-abbrev pub All : List Bool → Type 0
-All [] = Unit {0}
-All (b ∷ bs) = (b ≡ true) × All bs
+abbrev pub AllTrue : List Bool → Type 0
+AllTrue [] = Unit {0}
+AllTrue (b ∷ bs) = (b ≡ true) × AllTrue bs
 
 -- ---- which qubits a text is about
 
@@ -166,7 +166,7 @@ width (call k qs) = span qs
 pub record Says (limit : ℕ) (ts : List Token) (gs : List Gate) : Type 0 where
   pub source : Source
   pub text : text_of source ≡ ts
-  pub fine : All (checks_of source)
+  pub fine : AllTrue (checks_of source)
   pub gates : gates_of source ≡ gs
   pub few : length gs ≤ limit
   pub brief : length ts ≤ 4096
@@ -176,7 +176,7 @@ pub record Begins (ts : List Token) : Type 0 where
   pub more : List Token
   pub source : Source
   pub text : text_of source ≡ ts ++ more
-  pub fine : All (take (length ts) (checks_of source))
+  pub fine : AllTrue (take (length ts) (checks_of source))
   pub brief : length ts ≤ 4096
 
 -- a text that cannot be read: the sign i is the first with which no text goes on; or the text ends too soon, and i is one past its last sign
@@ -184,7 +184,7 @@ pub record Unread (ts : List Token) (i : ℕ) : Type 0 where
   pub inside : i ≤ length ts
   pub begins : Begins (take i ts)
   pub stops : i < length ts → Begins (take (i + 1) ts) → ⊥
-  pub ends : i ≡ length ts → (s : Source) → text_of s ≡ ts → All (checks_of s) → ⊥
+  pub ends : i ≡ length ts → (s : Source) → text_of s ≡ ts → AllTrue (checks_of s) → ⊥
 
 -- one statement
 abbrev pub Single : Program → Type 0
@@ -203,7 +203,7 @@ pub record Over (limit : ℕ) (ts : List Token) (i : ℕ) : Type 0 where
   pub after : Program
   pub single : Single statement
   pub text : text_of (record { blocks = blocks; program = next before (next statement after) }) ≡ ts
-  pub fine : All (checks_of (record { blocks = blocks; program = next before (next statement after) }))
+  pub fine : AllTrue (checks_of (record { blocks = blocks; program = next before (next statement after) }))
   pub few : length (flat (known blocks) before) ≤ limit
   pub many : limit < length (flat (known blocks) (next before statement))
   pub place : i ≡ length (blocks_written blocks ++ written before)
@@ -256,4 +256,4 @@ CallsBelow k (call j qs) = j < k
 
 -- what blocks say is a recursion over their numbers, which fall at each call: block k calls only blocks before it, and says what its statements say after those
 abbrev pub CallsFall : Type 0
-CallsFall = (bs : Blocks) → All (blocks_checks bs) → (k : ℕ) → k < count bs → CallsBelow k (body bs k) × ((slice_index_or (known bs) k unknown).row ≡ flat (take k (known bs)) (body bs k))
+CallsFall = (bs : Blocks) → AllTrue (blocks_checks bs) → (k : ℕ) → k < count bs → CallsBelow k (body bs k) × ((slice_index_or (known bs) k unknown).row ≡ flat (take k (known bs)) (body bs k))

@@ -15,7 +15,7 @@ use Rattle.text.specs.declared.statement.Brace.TheVariants.{Undo, Times}
 use Rattle.text.specs.declared.statement.Move.{Move}
 use Rattle.text.specs.declared.statement.Move.TheVariants as move
 use Rattle.text.specs.declared.statement.Place.{Place}
-use Rattle.text.specs.declared.row.Row.{Row as Row-kept}
+use Rattle.text.specs.declared.row.Row.{Row as RowKept}
 use Rattle.text.specs.declared.reader.Frame.{Frame}
 use Rattle.text.specs.declared.reader.Block.{Block}
 use Rattle.text.specs.declared.reader.Reader.{Reader}
@@ -36,7 +36,7 @@ put limit f None r = None
 put limit f (Some gs) None = None
 put limit f (Some gs) (Some hs) = capped limit (gs ++ f hs)
 
-abbrev pub row_of : Row-kept → Row
+abbrev pub row_of : RowKept → Row
 row_of r = cond r.over None (Some (vec_items r.gates))
 
 -- a brace that is open: what it does with the row inside, and the row before it

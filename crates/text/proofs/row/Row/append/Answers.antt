@@ -1,5 +1,5 @@
 use Rattle.std.proofs.Common.{◌*◌, ◌++◌, Some, vec_items, sym, ap, ◌∙◌, arith}
-use Rattle.std.proofs.lemmas.Bool.{cond_false}
+use Rattle.std.proofs.lemmas.Bool.{cond-false}
 use Rattle.text.specs.Reading.{row_of, factor, made_of}
 use Rattle.text.proofs.Rows.{row_good, row-over, put_right, put-over, put_good, braced-put, length_made_of}
 use Rattle.text.proofs.row.Row.append.Goals as goal
@@ -19,7 +19,7 @@ returns-then-length-limit c =
 pub returns : goal.returns
 returns c =
     let many = ap (λ n. n * factor c.args.brace) (c.len-2.ensures ∙ c.args.inner.now.gates.ok.0) in
-    cond_false _ _ _ c.if-self.false
+    cond-false _ _ _ c.if-self.false
     ∙ ap Some (c.in-ok-append.ensures ∙ ap (λ l. vec_items c.args.self.now.gates ++ made_of c.args.brace l) c.deref.ensures.value)
     ∙ sym (braced-put c.args.limit c.args.brace (row_of c.args.self.now) (row_of c.args.inner.now) (sym c.if-is-zero.ensures)
     ∙ put_good c.args.limit (made_of c.args.brace) (row_of c.args.self.now) (row_of c.args.inner.now) (vec_items c.args.self.now.gates) (vec_items c.args.inner.now.gates) (row_good c.args.self.now c.if-self.false) (row_good c.args.inner.now c.if-inner.false)
