@@ -1,5 +1,5 @@
 -- How large the parts of sums, differences and turned amplitudes are.
-use Rattle.std.proofs.Common.{◌≡◌, ℕ, zero, suc, ◌+◌, ◌≤◌, ℤ, pos, ◌-ℤ◌, nat_abs, arith}
+use Rattle.std.proofs.Common.{ℕ, zero, suc, ◌+◌, ◌≤◌, ℤ, pos, ◌-ℤ◌, nat_abs, arith}
 use borrow.Author.Differences.{ints}
 use Rattle.amplitude.specs.declared.Amplitude.{Amplitude}
 use Rattle.amplitude.specs.Ring.{plus, minus, turned, rooted, Within}

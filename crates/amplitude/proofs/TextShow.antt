@@ -1,19 +1,20 @@
 -- The four parts of an amplitude, one after another, are its text.
-use Rattle.std.proofs.Common.{◌≡◌, ℕ, Bool, true, false, cond, ◌&&◌, List, [], ◌++◌, ℤ, pos, codes, Decides, refl, append-nil}
+use Rattle.std.proofs.Common.{◌≡◌, ℕ, Bool, true, false, cond, ◌&&◌, List, [], ◌++◌, ℤ, pos, codes, int_eq, refl, ◌∙◌, append-nil}
 use Rattle.std.proofs.lemmas.Bool.{and_parts, cond_both, false≢true}
+use Rattle.std.specs.Cmp.{signed_Decides}
 use Rattle.amplitude.specs.declared.Amplitude.{Amplitude}
 use Rattle.amplitude.specs.Written.{amplitude_text, is_zero, part}
 use Rattle.amplitude.proofs.TextRead.{is-zero-zero}
 
-abbrev Differs : ℤ → Type 0
-Differs z = Decides false (z ≡ pos 0) → ⊥
-
-differs : (z : ℤ) → is_zero z ≡ true → Differs z
-differs z e d = false≢true (d.1 (is-zero-zero z e))
-
 -- what == tells of an amplitude that is not 0
 abbrev pub SomePart : Amplitude → Type 0
-SomePart a = Differs a.one → Differs a.w → Differs a.w2 → Differs a.w3 → ⊥
+SomePart a = false ≡ (int_eq a.one (pos 0) && (int_eq a.w (pos 0) && (int_eq a.w2 (pos 0) && int_eq a.w3 (pos 0))))
+
+equal : (z : ℤ) → is_zero z ≡ true → int_eq z (pos 0) ≡ true
+equal z e = (signed_Decides z (pos 0)).1 (is-zero-zero z e)
+
+all_four : (x y z w : Bool) → x ≡ true → y ≡ true → z ≡ true → w ≡ true → (x && (y && (z && w))) ≡ true
+all_four x y z w p q r s = rw (p, q, r, s)
 
 -- no 0 is written for it
 no_zero : (a : Amplitude) → SomePart a → cond (is_zero a.one && is_zero a.w && is_zero a.w2 && is_zero a.w3) (codes "0") [] ≡ []
@@ -23,7 +24,7 @@ no_zero a h =
     let p = and_parts (is_zero a.one && is_zero a.w && is_zero a.w2) (is_zero a.w3) e in
     let q = and_parts (is_zero a.one && is_zero a.w) (is_zero a.w2) p.0 in
     let r = and_parts (is_zero a.one) (is_zero a.w) q.0 in
-    absurd (h (differs a.one r.0) (differs a.w r.1) (differs a.w2 q.1) (differs a.w3 p.1)))
+    absurd (false≢true (h ∙ all_four _ _ _ _ (equal a.one r.0) (equal a.w r.1) (equal a.w2 q.1) (equal a.w3 p.1))))
     (λ e. refl)
 
 -- four parts, each first as long as those before it are 0

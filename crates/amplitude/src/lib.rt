@@ -1,4 +1,6 @@
 //! Amplitudes: whole numbers with an eighth root of one, w, where w^4 is -1.
+#![tactic(auto)]
+
 ghost use Rattle.std.specs.Prelude.{◌≡◌, ◌-◌, ◌^◌, ◌≤◌};
 ghost use Rattle.amplitude.specs.Laws.{RingLaws};
 ghost use Rattle.amplitude.specs.Ring.{Within, minus, plus, rooted, turned};
@@ -33,7 +35,8 @@ impl Amplitude {
 
     /// The sum.
     pub fn plus(self, other: Amplitude) -> Amplitude
-        requires { (Within (2 ^ 61) self) × (Within (2 ^ 61) other) }
+        requires small { Within (2 ^ 61) self }
+        requires other_small { Within (2 ^ 61) other }
         ensures { result ≡ plus self other }
     {
         Amplitude {
@@ -46,7 +49,8 @@ impl Amplitude {
 
     /// The difference.
     pub fn minus(self, other: Amplitude) -> Amplitude
-        requires { (Within (2 ^ 61) self) × (Within (2 ^ 61) other) }
+        requires small { Within (2 ^ 61) self }
+        requires other_small { Within (2 ^ 61) other }
         ensures { result ≡ minus self other }
     {
         Amplitude {

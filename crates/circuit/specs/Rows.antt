@@ -1,5 +1,5 @@
 -- Rows as numbers: the digits of a row as it is written, qubit 0 first, are the binary digits of its number. So rows go in the order of their numbers.
-use Rattle.std.specs.Prelude.{ℕ, zero, suc, ◌+◌, ◌-◌, ◌*◌, ◌/◌, ◌%◌, ◌^◌, Bool, true, false, cond, ◌&&◌, List, ◌==◌, slice_index_or}
+use Rattle.std.specs.Prelude.{ℕ, zero, suc, ◌+◌, ◌-◌, ◌*◌, ◌/◌, ◌%◌, ◌^◌, false, cond, List, ◌==◌, slice_index_or}
 use Rattle.amplitude.specs.declared.Amplitude.{Amplitude}
 use Rattle.amplitude.specs.Ring.{nought, unit}
 use Rattle.circuit.specs.declared.gate.Gate.{Gate}

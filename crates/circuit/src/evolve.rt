@@ -21,7 +21,8 @@ impl Gate {
     ) -> (Amplitude, Amplitude)
         requires few { qubits ≤ 8 }
         requires fit { Fit qubits self }
-        requires small { (Within (2 ^ 61) zero) × (Within (2 ^ 61) one) }
+        requires zero_small { Within (2 ^ 61) zero }
+        requires one_small { Within (2 ^ 61) one }
         ensures { result ≡ paired self (row qubits number) zero one }
     {
         match self {

@@ -1,4 +1,6 @@
 //! Gates, circuits, and exact states of up to eight qubits.
+#![tactic(auto)]
+
 mod code;
 mod evolve;
 mod gate;

@@ -1,10 +1,13 @@
 //! Compares the circuits that two texts say.
+#![tactic(auto)]
+
 use circuit::Refusal;
 use message::{CompareError, Reason, Side, compare_texts, position_of, show_place};
 use std::io::Read;
+use std::process::ExitCode;
 use std::{env, fs, io};
 
-const VERSION: &str = "compare 0.1, proved with rattle-kit-8b logic 7f726aa041520687";
+const VERSION: &str = "compare 0.1, proved with rattle-kit-13f logic dac8208d650f15bf";
 
 const HELP: &str = "usage: compare FILE FILE
 
@@ -85,8 +88,9 @@ fn is(word: &Option<String>, what: &str) -> bool {
     }
 }
 
-fn main(rt: HostRuntime) -> Result<(), NoAnswer> {
-    let mut args = env::args(&rt)?;
+/// Does what the arguments ask for.
+fn answer(rt: &HostRuntime) -> Result<(), NoAnswer> {
+    let mut args = env::args(rt)?;
     let _program = args.next();
     let first = args.next();
     if is(&first, "--help") {
@@ -101,5 +105,12 @@ fn main(rt: HostRuntime) -> Result<(), NoAnswer> {
         eprintln!(rt; "compare: two files; --help tells more")?;
         return Err(NoAnswer);
     };
-    run(&rt, &first, &second)
+    run(rt, &first, &second)
+}
+
+fn main(rt: HostRuntime) -> ExitCode {
+    match answer(&rt) {
+        Ok(()) => ExitCode::SUCCESS,
+        Err(NoAnswer) => ExitCode::FAILURE,
+    }
 }

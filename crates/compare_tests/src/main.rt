@@ -1,4 +1,6 @@
 //! Pairs of texts and what comparing them answers, held to the file `stdout`.
+#![tactic(auto)]
+
 use message::{CompareError, Reason, Side, compare_texts};
 use std::io;
 

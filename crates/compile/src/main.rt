@@ -1,10 +1,13 @@
 //! Compiles the text of a job for its device, and prints the device's gates.
+#![tactic(auto)]
+
 use circuit::Refusal;
 use message::{JobError, Reason, compile_job, position_of, show_place, text_of};
 use std::io::Read;
+use std::process::ExitCode;
 use std::{env, fs, io};
 
-const VERSION: &str = "compile 0.1, proved with rattle-kit-8b logic 7f726aa041520687";
+const VERSION: &str = "compile 0.1, proved with rattle-kit-13f logic dac8208d650f15bf";
 
 const HELP: &str = "usage: compile [--plain] [FILE]
 
@@ -123,8 +126,9 @@ fn compile(
     run(rt, plain, &name, &from_file(rt, &name)?)
 }
 
-fn main(rt: HostRuntime) -> Result<(), NoAnswer> {
-    let mut args = env::args(&rt)?;
+/// Does what the arguments ask for.
+fn answer(rt: &HostRuntime) -> Result<(), NoAnswer> {
+    let mut args = env::args(rt)?;
     let _program = args.next();
     let first = args.next();
     if is(&first, "--help") {
@@ -136,7 +140,14 @@ fn main(rt: HostRuntime) -> Result<(), NoAnswer> {
         return Ok(());
     }
     if is(&first, "--plain") {
-        return compile(&rt, true, args.next(), args.next());
+        return compile(rt, true, args.next(), args.next());
     }
-    compile(&rt, false, first, args.next())
+    compile(rt, false, first, args.next())
+}
+
+fn main(rt: HostRuntime) -> ExitCode {
+    match answer(&rt) {
+        Ok(()) => ExitCode::SUCCESS,
+        Err(NoAnswer) => ExitCode::FAILURE,
+    }
 }

@@ -1,4 +1,6 @@
 //! Jobs and what comes of them, held to the file `stdout`.
+#![tactic(auto)]
+
 use message::{JobError, Reason, compile_job};
 use std::io;
 

@@ -1,11 +1,11 @@
 -- Circuits without Toffolis done on a connected device: gates where their qubits are joined, and swaps along a way until they are.
-use Rattle.std.proofs.Common.{◌≡◌, ℕ, ◌+◌, ◌<◌, true, List, [], ◌∷◌, ◌++◌, sym, refl, ap, ◌∙◌, subst, ap₂, inl, inr, add_assoc, zero-add, arith}
+use Rattle.std.proofs.Common.{◌≡◌, ℕ, ◌+◌, ◌<◌, true, List, [], ◌∷◌, ◌++◌, sym, refl, ap, ◌∙◌, subst, ap₂, inl, inr, arith}
 use mathlib.Core.Path.{fun_ext}
 use Rattle.std.proofs.lemmas.Bool.{cases_eq}
 use Rattle.std.proofs.lemmas.Bool.Decides.{nat_tests}
 use Rattle.circuit.proofs.Counts.{mixes-append, t_count-append}
 use Rattle.circuit.proofs.Linear.{run-append}
-use Rattle.circuit.specs.Circuit.{State, run, mixed, mixes, worth, t_count, Fit}
+use Rattle.circuit.specs.Circuit.{State, run, mixes, worth, t_count, Fit}
 use Rattle.circuit.specs.declared.gate.Gate.{Gate}
 use Rattle.circuit.specs.declared.gate.Gate.TheVariants.{Phase, Hadamard, Not, ControlledNot, Toffoli}
 use Rattle.device.specs.Coupling.{Graph, Way, stays, goes, Connected, Can, AllCan}

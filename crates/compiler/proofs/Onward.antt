@@ -3,7 +3,7 @@ use Rattle.std.proofs.Common.{◌≡◌, ℕ, ◌+◌, List, sym, ap, ◌∙◌,
 use mathlib.Core.Path.{fun_ext, ◌≡⟨◌⟩◌, ◌∎}
 use Rattle.amplitude.proofs.RingLaws.{turned_add, rooted-rooted, rooted_turned, rooted_injective}
 use Rattle.amplitude.specs.Ring.{turned, rooted}
-use Rattle.circuit.specs.Circuit.{Row, State, run, mixes, t_count, Same}
+use Rattle.circuit.specs.Circuit.{Row, State, run, mixes, Same}
 use Rattle.circuit.specs.declared.gate.Gate.{Gate}
 use Rattle.device.specs.Coupling.{Graph}
 use Rattle.device.specs.Layout.{laid}

@@ -1,6 +1,5 @@
 -- Three controlled NOTs are a swap of two places.
-use Rattle.std.proofs.Common.{◌≡◌, ℕ, zero, suc, ◌<◌, Bool, true, false, cond, not, ◌||◌, eqb, Decides, sym, refl, ap, ◌∙◌, arith}
-use mathlib.Core.Path.{fun_ext}
+use Rattle.std.proofs.Common.{◌≡◌, ℕ, zero, suc, ◌<◌, Bool, true, not, ◌||◌, eqb, Decides, sym, refl, ap, ◌∙◌, arith}
 use Rattle.std.proofs.lemmas.Bool.Decides.{nat_tests, same_from_decides, Decides-below_and, Decides-like}
 use Rattle.circuit.specs.Circuit.{Row, State, run}
 use Rattle.device.specs.Coupling.{Graph}

@@ -1,5 +1,5 @@
 -- Swaps on the way to a controlled NOT.
-use Rattle.std.specs.Prelude.{◌≡◌, ℕ, ◌+◌, ◌<◌, ◌≤◌, true}
+use Rattle.std.specs.Prelude.{◌≡◌, ℕ, ◌+◌, ◌<◌, ◌≤◌, true, ◌≢◌}
 use Rattle.laws.specs.Rename.{other}
 use Rattle.device.specs.Coupling.{Graph}
 use Rattle.device.specs.Distances.{apart}
@@ -9,6 +9,6 @@ use Rattle.device.specs.declared.ways.Ways.{Ways}
 pub record Affordable (d : Graph) (w : Ways) (a b made x y : ℕ) : Type 0 where
   pub x_inside : x < d.size
   pub y_inside : y < d.size
-  pub differs : x ≡ y → ⊥
+  pub differs : x ≢ y
   pub joined : d.joined x y ≡ true
   pub enough : made + apart w (other x y a) (other x y b) ≤ 14

@@ -1,10 +1,12 @@
 //! Circuits brought onto a device.
+#![tactic(auto)]
+
 mod checks;
 mod decomposition;
-pub mod laws;
 mod pipeline;
 mod policy;
 mod routing;
+pub mod theorems;
 mod walk;
 
 pub use checks::check_circuit;

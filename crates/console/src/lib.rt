@@ -1,4 +1,6 @@
 //! What both programs do at the terminal: read what they are given, and say why there is no answer.
+#![tactic(auto)]
+
 mod input;
 mod refusal;
 

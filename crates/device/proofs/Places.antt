@@ -49,7 +49,7 @@ unfolding misplaced_from
 misplaced_here size i xs h t = ap (misplaced_from size (take i xs) i) (drop_more xs i 0 h) ∙ cond-false _ _ _ t
 
 -- a test for the places before is that of `contains`
-pub contains_among : (x : ℕ) (ys : List ℕ) (r : Bool) → IsAnyAnswer (λ y t. Decides t (y ≡ x)) ys r → r ≡ among x ys
+pub contains_among : (x : ℕ) (ys : List ℕ) (r : Bool) → IsAnyAnswer (λ y t. eqb y x ≡ t) ys r → r ≡ among x ys
 contains_among x ys r h = same_from_decides r (among x ys) (contains_decides eqb Decides-eqb ys x r h) (among-told x ys)
 
 -- one place more

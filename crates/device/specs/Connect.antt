@@ -1,5 +1,5 @@
 -- What shows that a device is not connected.
-use Rattle.std.specs.Prelude.{◌≡◌, ℕ, ◌+◌, ◌*◌, ◌<◌, ◌⊎◌, Some, None, Option}
+use Rattle.std.specs.Prelude.{◌≡◌, ℕ, ◌+◌, ◌*◌, ◌<◌, ◌⊎◌, Some, None, Option, ◌≢◌}
 use Rattle.device.specs.Coupling.{Graph, Way, Connected}
 use Rattle.device.specs.declared.connect.Fault.{Fault}
 use Rattle.device.specs.declared.connect.Fault.TheVariants.{OneWay, Apart}
@@ -17,7 +17,7 @@ Even d = (x y : ℕ) → x < d.size → y < d.size → d.joined x y ≡ d.joined
 pub record IsOneWay (d : Graph) (a b : ℕ) : Type 0 where
   pub a_inside : a < d.size
   pub b_inside : b < d.size
-  pub differs : d.joined a b ≡ d.joined b a → ⊥
+  pub differs : d.joined a b ≢ d.joined b a
   pub first : (x y : ℕ) → x < d.size → y < d.size → x * d.size + y < a * d.size + b → d.joined x y ≡ d.joined y x
 
 -- all are joined the same both ways, no way leads from a to b, and it is the first such pair

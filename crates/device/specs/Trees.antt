@@ -1,5 +1,5 @@
 -- A tree of shortest ways from a root: how far each place is, 255 where it is not reached, and the next place toward the root.
-use Rattle.std.specs.Prelude.{◌≡◌, ℕ, ◌+◌, ◌<◌, ◌≤◌, true, cond, ◌⊎◌, List, [], ◌∷◌, length, ◌==◌, slice_index, slice_index_or}
+use Rattle.std.specs.Prelude.{◌≡◌, ℕ, ◌+◌, ◌<◌, ◌≤◌, true, cond, ◌⊎◌, List, [], ◌∷◌, length, ◌==◌, slice_index}
 use Rattle.device.specs.Coupling.{Graph}
 
 -- how many places are reached
@@ -12,7 +12,7 @@ pub record Grown (d : Graph) (a : ℕ) (far up : List ℕ) : Type 0 where
   pub wide : length far ≡ 16
   pub high : length up ≡ 16
   pub at : a < d.size
-  pub root : slice_index_or far a 0 ≡ 0
+  pub root : slice_index far a ≡ 0
   pub only : (x : ℕ) → x < d.size → slice_index far x ≡ 0 → x ≡ a
   pub low : (x : ℕ) → x < d.size → slice_index far x < 255 → slice_index far x < reached far
   pub inside : (x : ℕ) → x < d.size → 0 < slice_index far x → slice_index far x < 255 → slice_index up x < d.size

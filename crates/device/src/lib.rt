@@ -1,4 +1,6 @@
 //! Devices: coupling graphs of up to sixteen places.
+#![tactic(auto)]
+
 mod between;
 mod connect;
 mod couple;

@@ -17,9 +17,9 @@ pub struct Tree {
 
 /// All places joined to x are reached.
 fn spread(device: &Device, tree: &mut Tree, x: usize)
-    requires x_lt_size { x < device.now.size }
-    requires x_bound { slice_index tree.old.distance x < 255 }
-    requires grown_2 { Grown (graph_of device.now) tree.old.root tree.old.distance tree.old.toward }
+    requires place { x < device.now.size }
+    requires near { slice_index tree.old.distance x < 255 }
+    requires was_grown { Grown (graph_of device.now) tree.old.root tree.old.distance tree.old.toward }
     ensures grown { Grown (graph_of device.now) tree.new.root tree.new.distance tree.new.toward }
     ensures root { tree.new.root ≡ tree.old.root }
     ensures spread { Spread (graph_of device.now) tree.old.distance tree.new.distance x device.now.size }
@@ -34,9 +34,9 @@ fn spread(device: &Device, tree: &mut Tree, x: usize)
 
 /// All places joined to one of a level are reached.
 fn sweep(device: &Device, tree: &mut Tree, level: u8)
-    requires level_bound { level < 16 }
-    requires grown_2 { Grown (graph_of device.now) tree.old.root tree.old.distance tree.old.toward }
-    requires closed_2 { Closed (graph_of device.now) tree.old.distance level }
+    requires low { level < 16 }
+    requires was_grown { Grown (graph_of device.now) tree.old.root tree.old.distance tree.old.toward }
+    requires was_closed { Closed (graph_of device.now) tree.old.distance level }
     ensures grown { Grown (graph_of device.now) tree.new.root tree.new.distance tree.new.toward }
     ensures root { tree.new.root ≡ tree.old.root }
     ensures closed { Closed (graph_of device.now) tree.new.distance (level + 1) }

@@ -1,5 +1,5 @@
 -- What is said of a sign that cannot come next holds of it.
-use Rattle.std.proofs.Common.{◌≡◌, ℕ, ◌<◌, ◌≤◌, Bool, true, false, cond, not, ◌&&◌, eqb, ltb, List, [], ◌∷◌, ◌++◌, length, is_some, Some, None, Ok, Option, sym, refl, ap, ◌∙◌, subst, true≢false, arith}
+use Rattle.std.proofs.Common.{◌≡◌, ℕ, ◌<◌, Bool, true, false, cond, ◌&&◌, eqb, ltb, List, [], ◌∷◌, length, is_some, Some, None, Ok, Option, sym, refl, ap, ◌∙◌, true≢false, arith}
 use mathlib.Core.Bool.{false≢true}
 use Rattle.std.proofs.lemmas.Bool.{ltb-true, ltb-false, eqb-true, cond-false}
 use Rattle.text.specs.declared.token.Token.{Token}
@@ -10,7 +10,7 @@ use Rattle.text.specs.declared.statement.Move.{Move}
 use Rattle.text.specs.declared.statement.Move.TheVariants as move
 use Rattle.text.specs.Accept.{accepts, size_of}
 use Rattle.text.specs.Move.{number_in, is, moved, on_number}
-use Rattle.text.specs.Reading.{State, Held, room_in, left, closes, named, is_start, no_braces, outside, place, act, complete, runs, begins}
+use Rattle.text.specs.Reading.{State, Held, room_in, left, closes, is_start, no_braces, outside, place, act, complete, runs, begins}
 use Rattle.text.proofs.Accepts.{settles-some}
 use Rattle.diagnosis.specs.declared.fault.Fault.{Fault}
 use Rattle.diagnosis.specs.declared.fault.Fault.TheVariants.{NotNext, NoBlock, NoQubit, Twice, TooManyQubits, TooFewQubits}

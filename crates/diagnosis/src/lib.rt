@@ -1,4 +1,6 @@
 //! Why a text is refused, and what could stand where it is.
+#![tactic(auto)]
+
 mod cause;
 mod choice;
 mod expect;

@@ -1,5 +1,5 @@
 -- The scan row by row, and that there is one turn.
-use Rattle.std.proofs.Common.{◌≡◌, ℕ, zero, suc, ◌+◌, ◌*◌, ◌%◌, ◌^◌, ◌<◌, ◌≤◌, Bool, true, false, not, List, pos, None, sym, refl, ap, ◌∙◌, subst, ap₂, suc-mul, zero-mul, arith}
+use Rattle.std.proofs.Common.{◌≡◌, ℕ, zero, suc, ◌+◌, ◌*◌, ◌%◌, ◌^◌, ◌<◌, ◌≤◌, Bool, true, false, List, pos, None, sym, refl, ap, ◌∙◌, subst, ap₂, suc-mul, zero-mul, arith}
 use mathlib.Core.Path.{fun_ext}
 use native.Mathlib.Decide.{ℕ_discrete}
 use lib.Arith.{digits_div, digits_mod}
@@ -8,7 +8,6 @@ use Rattle.amplitude.specs.Ring.{nought, unit, minus, rooted}
 use Rattle.amplitude.specs.declared.Amplitude.{Amplitude}
 use Rattle.circuit.proofs.Linear.{run-minus}
 use Rattle.circuit.specs.Circuit.{Row, State, run, mixes, AllFit, AlikeBy}
-use Rattle.circuit.specs.Rows.{row}
 use Rattle.circuit.specs.declared.gate.Gate.{Gate}
 use Rattle.equivalence.proofs.Across.{row_by_row}
 use Rattle.equivalence.proofs.Basis.{turn-told}

@@ -1,5 +1,5 @@
 -- The scan is right.
-use Rattle.std.proofs.Common.{◌≡◌, ℕ, zero, suc, ◌+◌, ◌*◌, ◌/◌, ◌%◌, ◌^◌, ◌<◌, ◌≤◌, Bool, true, false, cond, not, ◌&&◌, ◌⊎◌, List, ℤ, pos, negsuc, None, sym, refl, ap, ◌∙◌, subst, inl, inr, add-zero, add-suc, mul-le-mul_right, mod-lt, suc-mul, div-lt_iff_lt-mul, div-add-mod', arith, pow_pos, eq-eqb, eqb-true}
+use Rattle.std.proofs.Common.{◌≡◌, ℕ, zero, suc, ◌+◌, ◌*◌, ◌/◌, ◌%◌, ◌^◌, ◌<◌, ◌≤◌, Bool, true, false, cond, ◌&&◌, ◌⊎◌, List, ℤ, pos, negsuc, None, sym, refl, ap, ◌∙◌, subst, inl, inr, add-zero, add-suc, mul-le-mul_right, mod-lt, suc-mul, div-lt_iff_lt-mul, div-add-mod', arith, pow_pos, eq-eqb, eqb-true}
 use native.Mathlib.Decide.{ℕ_discrete, dec_lt}
 use lib.Arith.{digits_lt, digits_div, digits_mod}
 use borrow.Author.Tests.{both_ways}
@@ -50,14 +50,14 @@ and_true : (x y : Bool) → (x && y) ≡ true → (x ≡ true) × (y ≡ true)
 and_true true y e = (refl, e)
 and_true false y e = absurd (both_ways false refl e)
 
-level_true : (a b : ℤ) → level a b ≡ true → a ≡ b
+pub level_true : (a b : ℤ) → level a b ≡ true → a ≡ b
 unfolding level
 level_true (pos m) (pos n) e = ap pos (eqb-true m n e)
 level_true (pos m) (negsuc n) e = absurd (both_ways false refl e)
 level_true (negsuc m) (pos n) e = absurd (both_ways false refl e)
 level_true (negsuc m) (negsuc n) e = ap negsuc (eqb-true m n e)
 
-level_self : (a : ℤ) → level a a ≡ true
+pub level_self : (a : ℤ) → level a a ≡ true
 unfolding level
 level_self (pos m) = eq-eqb m m refl
 level_self (negsuc m) = eq-eqb m m refl

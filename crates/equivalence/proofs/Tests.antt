@@ -1,34 +1,25 @@
 -- The code's tests and the specification's.
-use Rattle.std.proofs.Common.{◌≡◌, ℕ, zero, suc, ◌+◌, ◌-◌, ◌^◌, ◌<◌, ◌≤◌, Bool, true, false, cond, Decides, sym, refl, ap, ◌∙◌, subst, add-zero, add-suc, pow-suc, add-one, arith}
-use borrow.Author.Tests.{both_ways}
+use Rattle.std.proofs.Common.{◌≡◌, ℕ, zero, suc, ◌+◌, ◌-◌, ◌^◌, ◌<◌, ◌≤◌, Bool, true, false, ◌&&◌, ℤ, int_eq, sym, refl, ap, ◌∙◌, subst, add-zero, add-suc, pow-suc, add-one, arith}
+use Rattle.std.specs.Cmp.{signed_Decides}
+use Rattle.std.proofs.lemmas.Bool.Decides.{same_from_decides}
 use Rattle.amplitude.proofs.Bounds.{within_rooted}
-use Rattle.amplitude.proofs.RingLaws.{parts}
 use Rattle.amplitude.specs.Ring.{nought, turned, rooted, Within}
 use Rattle.amplitude.specs.declared.Amplitude.{Amplitude}
-use Rattle.equivalence.proofs.Scanning.{equal_true, equal_self}
-use Rattle.equivalence.specs.Scan.{equal, first, step, onward}
+use Rattle.equivalence.proofs.Scanning.{level_true, level_self}
+use Rattle.equivalence.specs.Scan.{level, equal, first, step, onward}
 use Rattle.equivalence.specs.declared.scan.Verdict.{Verdict}
 use Rattle.equivalence.specs.declared.scan.Verdict.TheVariants.{Untold, By, Broken}
 
 -- what the derived `==` of amplitudes ensures
 abbrev pub EqSays : Bool → Amplitude → Amplitude → Type 0
-EqSays r a b =
-    cond {A = Type 0} r
-    (Decides true (a.one ≡ b.one) × (Decides true (a.w ≡ b.w) × (Decides true (a.w2 ≡ b.w2) × Decides true (a.w3 ≡ b.w3))))
-    ((Decides false (a.one ≡ b.one) → ⊥) → (Decides false (a.w ≡ b.w) → ⊥) → (Decides false (a.w2 ≡ b.w2) → ⊥) → (Decides false (a.w3 ≡ b.w3) → ⊥) → ⊥)
+EqSays r a b = r ≡ (int_eq a.one b.one && (int_eq a.w b.w && (int_eq a.w2 b.w2 && int_eq a.w3 b.w3)))
 
-refuted : {P : Type 0} → P → Decides false P → ⊥
-refuted p d = both_ways false refl (d.1 p)
+level_is : (x y : ℤ) → int_eq x y ≡ level x y
+level_is x y = same_from_decides (int_eq x y) (level x y) (signed_Decides x y) (level_true x y, λ e. subst (λ z. level x z ≡ true) e (level_self x))
 
 pub eq_is : (r : Bool) (a b : Amplitude) → EqSays r a b → r ≡ equal a b
-eq_is true a b h = sym (equal_self a) ∙ ap (equal a) (parts {a = a} {b = b} (h.0.0 refl, h.1.0.0 refl, h.1.1.0.0 refl, h.1.1.1.0 refl))
-eq_is false a b h = go (equal a b) refl
-  where
-    go : (t : Bool) → equal a b ≡ t → false ≡ t
-    go false e = refl
-    go true e =
-        let p = equal_true a b e in
-        absurd (h (refuted (ap (λ (x : Amplitude). x.one) p)) (refuted (ap (λ (x : Amplitude). x.w) p)) (refuted (ap (λ (x : Amplitude). x.w2) p)) (refuted (ap (λ (x : Amplitude). x.w3) p)))
+unfolding equal
+eq_is r a b h = rw (← level_is a.one b.one, ← level_is a.w b.w, ← level_is a.w2 b.w2, ← level_is a.w3 b.w3) h
 
 minus_one : (m : ℕ) → suc m - 1 ≡ m
 minus_one m = omega arith

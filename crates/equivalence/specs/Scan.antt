@@ -1,5 +1,5 @@
 -- How two circuits are compared, and not what an answer says: one pair of amplitudes after another, row by row. Nobody need read it to know what is promised.
-use Rattle.std.specs.Prelude.{ℕ, zero, suc, ◌+◌, ◌-◌, ◌*◌, ◌/◌, ◌%◌, ◌^◌, ◌<◌, ◌≤◌, Bool, true, false, cond, ◌&&◌, List, reverse, ℤ, pos, negsuc, ◌==◌, slice_index_or}
+use Rattle.std.specs.Prelude.{ℕ, zero, suc, ◌+◌, ◌-◌, ◌*◌, ◌/◌, ◌%◌, ◌^◌, ◌<◌, ◌≤◌, Bool, false, cond, ◌&&◌, List, reverse, ℤ, pos, negsuc, ◌==◌, slice_index_or}
 use Rattle.amplitude.specs.declared.Amplitude.{Amplitude}
 use Rattle.amplitude.specs.Ring.{nought, turned, rooted, Within}
 use Rattle.circuit.specs.declared.gate.Gate.{Gate}

@@ -1,4 +1,6 @@
 //! A job: the text of a circuit, and behind it the device and the layout to compile it for.
+#![tactic(auto)]
+
 mod builder;
 mod error;
 mod grid;

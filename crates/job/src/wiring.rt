@@ -17,7 +17,8 @@ impl Grid {
 
     /// Joins two places, both ways.
     pub fn join(&mut self, a: u8, b: u8)
-        requires { (a < self.old.size) × (b < self.old.size) }
+        requires first { a < self.old.size }
+        requires second { b < self.old.size }
         ensures { table self.new ≡ wired a b (table self.old) }
     {
         let n = self.size as usize;

@@ -1,5 +1,5 @@
 -- Circuits that do the same. Each is a statement whose proof is owed.
-use Rattle.std.specs.Prelude.{◌≡◌, ℕ, cond, List, [], ◌∷◌, ◌≢◌}
+use Rattle.std.specs.Prelude.{◌≡◌, ℕ, List, [], ◌∷◌, ◌≢◌}
 use Rattle.circuit.specs.declared.gate.Gate.{Gate}
 use Rattle.circuit.specs.declared.gate.Gate.TheVariants.{Phase, Hadamard, Not, ControlledNot}
 use Rattle.laws.specs.Rename.{other}
@@ -34,11 +34,11 @@ TableHolds = (q : ℕ) → AllHold (table q)
 -- three controlled Nots, each by the other qubit, exchange the two
 abbrev pub Exchanges : Type 0
 Exchanges =
-    (x y : ℕ) → (x ≢ y) → (s : State) (b : Row) →
+    (x y : ℕ) → x ≢ y → (s : State) (b : Row) →
     run (ControlledNot x y ∷ ControlledNot y x ∷ ControlledNot x y ∷ []) s b ≡ s (λ k. b (other x y k))
 
 -- between Hadamards on both its qubits a controlled Not is the one with control and target changed
 abbrev pub TurnedRound : Type 0
 TurnedRound =
-    (c t : ℕ) → (c ≢ t) →
+    (c t : ℕ) → c ≢ t →
     AlikeBy (ControlledNot c t ∷ []) (Hadamard c ∷ Hadamard t ∷ ControlledNot t c ∷ Hadamard c ∷ Hadamard t ∷ []) 0

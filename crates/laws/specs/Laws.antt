@@ -1,5 +1,5 @@
 -- The laws of circuits. Each is a statement whose proof is owed.
-use Rattle.std.specs.Prelude.{◌≡◌, ℕ, ◌*◌, ◌<◌, Bool, true, false, List, [], ◌∷◌, ◌++◌}
+use Rattle.std.specs.Prelude.{◌≡◌, ℕ, ◌*◌, ◌<◌, true, false, List, [], ◌∷◌, ◌++◌}
 use Rattle.amplitude.specs.Ring.{plus, turned, rooted}
 use Rattle.circuit.specs.declared.gate.Gate.{Gate}
 use Rattle.circuit.specs.Circuit.{Row, State, run, mixes, AllFit, Same}

@@ -1,4 +1,6 @@
 //! Circuits undone and with other qubits put in, and the laws that circuits obey.
+#![tactic(auto)]
+
 mod identities;
 mod laws;
 

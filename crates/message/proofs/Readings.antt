@@ -1,5 +1,5 @@
 -- What a reader's answer tells of the bytes of a text.
-use Rattle.std.proofs.Common.{◌≡◌, ℕ, List, Ok, Err, vec_items, refl}
+use Rattle.std.proofs.Common.{ℕ, List, Ok, Err, vec_items, refl}
 use Rattle.circuit.specs.declared.gate.Gate as gate
 use Rattle.circuit.specs.declared.refusal.Refusal.{Refusal}
 use Rattle.circuit.specs.declared.refusal.Refusal.TheVariants.{Qubits, Length, Number, Gate, Layout, Device, Room, Mixes, Text}

@@ -1,5 +1,5 @@
 -- What reading a text and comparing two circuits tell of the bytes of two texts.
-use Rattle.std.proofs.Common.{◌≡◌, ℕ, List, Ok, Err, Result, String, refl, subst}
+use Rattle.std.proofs.Common.{ℕ, List, Ok, Err, Result, String, refl, subst}
 use Rattle.std.specs.declared.alloc.Global.{Global}
 use Rattle.text.specs.declared.error.ReadError.{ReadError}
 use Rattle.text.specs.declared.error.ReadError.TheVariants as unread

@@ -1,11 +1,10 @@
 -- As many signs stand before a sign as its number says.
 use Rattle.std.proofs.Common.{◌≡◌, ℕ, zero, suc, ◌+◌, ◌<◌, ◌≤◌, Bool, true, false, cond, List, [], ◌∷◌, ◌++◌, length, get_or, take, drop, sym, refl, ap, ◌∙◌, arith, length-append}
 use Rattle.std.proofs.lemmas.List.{drop_more, drop_all}
-use Rattle.text.specs.declared.token.Token.{Token}
 use Rattle.text.specs.declared.token.Class.{Class}
 use Rattle.text.specs.declared.token.Class.TheVariants.{Alphanumeric, Blank, Mark}
 use Rattle.text.specs.Cut.{cut, flushed, by_class}
-use Rattle.text.specs.Spelling.{class, word_of}
+use Rattle.text.specs.Spelling.{class}
 use Rattle.message.specs.Where.{begins_here, begins, in_word, by_kind, start_of, Starts, after}
 
 -- the word so far is not empty exactly if one is inside

@@ -1,6 +1,6 @@
 -- What is written of a circuit is read as that circuit. Each is a statement whose proof is owed.
 use Rattle.std.specs.Prelude.{◌≡◌, ℕ, ◌<◌, ◌≤◌, List, [], ◌∷◌, ◌++◌, length, codes}
-use Rattle.std.specs.List.{AllByRecursion as All}
+use Rattle.std.specs.List.{AllByRecursion}
 use Rattle.circuit.specs.declared.gate.Gate.{Gate}
 use Rattle.circuit.specs.declared.gate.Gate.TheVariants.{Phase, Hadamard, Not, ControlledNot, Toffoli}
 use Rattle.text.specs.Program.{Program, nothing, gate, next, spelt, written}
@@ -17,11 +17,11 @@ Small (ControlledNot c q) = (c < 256) × (q < 256)
 Small (Toffoli c d q) = (c < 256) × (d < 256) × (q < 256)
 
 abbrev pub AllSmall : List Gate → Type 0
-AllSmall gs = All Small gs
+AllSmall gs = AllByRecursion Small gs
 
 -- the same of the places of a layout
 abbrev pub AllBytes : List ℕ → Type 0
-AllBytes ps = All (λ p. p < 256) ps
+AllBytes ps = AllByRecursion (λ p. p < 256) ps
 
 -- a row of gates as a program: a statement for each
 abbrev pub row : List Gate → Program
@@ -45,7 +45,7 @@ LineRead = (g : Gate) → Small g → SaysIn 1 (statement g ++ codes "\n") (g �
 
 -- this text tells these gates and this layout: each line of it by itself says its gate, and it is printed of no others
 pub record Tells (out : List ℕ) (gs : List Gate) (ps : List ℕ) : Type 0 where
-  pub lines : All (λ g. SaysIn 1 (statement g ++ codes "\n") (g ∷ [])) gs
+  pub lines : AllByRecursion (λ g. SaysIn 1 (statement g ++ codes "\n") (g ∷ [])) gs
   pub only : (hs : List Gate) (qs : List ℕ) → AllSmall hs → AllBytes qs → out ≡ printed hs qs → (hs ≡ gs) × (qs ≡ ps)
 
 -- the line of a layout tells the layout

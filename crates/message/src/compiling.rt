@@ -2,7 +2,7 @@
 ghost use Rattle.std.specs.Prelude.{◌≡◌, ◌*◌, ◌%◌, ◌≤◌, length, IfOk};
 ghost use Rattle.circuit.specs.Code.{gates_in};
 ghost use Rattle.job.specs.Plan.{whole};
-ghost use Rattle.message.specs.Compiled.{Answers, Brought, Improved, LinesRead, TextRead, newlines, numbered, plan_error, text_error, text_of};
+ghost use Rattle.message.specs.Compiled.{Answers, Brought, Improved, LinesRead, TextRead, newlines, plan_error, text_error, text_of};
 ghost use Rattle.message.specs.declared.compiling.JobError.TheVariants.{Memory};
 
 use crate::show::show_compiled;

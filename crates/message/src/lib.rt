@@ -1,4 +1,6 @@
 //! Circuits, answers and refusals as text, and jobs: from bytes to bytes.
+#![tactic(auto)]
+
 mod comparing;
 mod compiling;
 mod locate;

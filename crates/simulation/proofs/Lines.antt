@@ -1,5 +1,5 @@
 -- Rows digit by digit, and lines one after another.
-use Rattle.std.proofs.Common.{◌≡◌, ℕ, zero, suc, ◌+◌, ◌*◌, ◌^◌, ◌<◌, ◌≤◌, Bool, cond, List, [], ◌++◌, get_or, sym, refl, ap, ◌∙◌, ap₂, pow-suc, add-one, arith}
+use Rattle.std.proofs.Common.{◌≡◌, ℕ, zero, suc, ◌+◌, ◌*◌, ◌^◌, ◌<◌, cond, List, ◌++◌, get_or, sym, refl, ap, ◌∙◌, ap₂, add-one, arith}
 use Rattle.amplitude.specs.declared.Amplitude.{Amplitude}
 use Rattle.amplitude.specs.Ring.{nought}
 use Rattle.circuit.specs.declared.gate.Gate.{Gate}

@@ -1,4 +1,6 @@
 //! The amplitudes that a circuit gives from a row, exactly, as text.
+#![tactic(auto)]
+
 mod check;
 mod error;
 mod play;

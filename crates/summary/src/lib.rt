@@ -1,4 +1,6 @@
 //! What a circuit is made of, and what a compiler made of it.
+#![tactic(auto)]
+
 mod schedule;
 mod table;
 mod tally;

@@ -1,5 +1,5 @@
 -- How signs are spelled in bytes, by words, marks and blanks.
-use Rattle.std.specs.Prelude.{◌≡◌, ℕ, ◌+◌, ◌-◌, ◌*◌, Bool, true, cond, ◌&&◌, ◌||◌, List, [], ◌∷◌, ◌++◌, codes, ◌==◌, nat_le}
+use Rattle.std.specs.Prelude.{◌≡◌, ℕ, ◌+◌, ◌-◌, ◌*◌, Bool, true, cond, ◌&&◌, ◌||◌, List, [], ◌∷◌, ◌++◌, codes, ◌==◌, nat_le, ◌≢◌}
 use Rattle.std.specs.Str.{bytes_eq}
 use Rattle.text.specs.declared.token.Token.{Token}
 use Rattle.text.specs.declared.token.Token.TheVariants.{Turn, Of, Mix, Flip, If, Device, Joined, Lay, Undo, Times, Block, Call, On, Number, Open, Close, Semicolon, Other}
@@ -58,7 +58,7 @@ Run (b ∷ bs) = (class b ≡ Alphanumeric) × Run bs
 -- a word ends here
 abbrev pub Stops : List ℕ → Type 0
 Stops [] = Unit {0}
-Stops (b ∷ bs) = class b ≡ Alphanumeric → ⊥
+Stops (b ∷ bs) = class b ≢ Alphanumeric
 
 -- these bytes spell these signs
 pub data Spells : List ℕ → List Token → Type 0 where

@@ -1,4 +1,6 @@
 //! Texts: their signs, and the circuits that they say.
+#![tactic(auto)]
+
 mod cut;
 mod error;
 mod program;

@@ -70,7 +70,7 @@ proper (Toffoli c d q) = not (c == q) && not (d == q)
 -- one gate, but for eighths and the order of controls
 abbrev pub twin : Gate → Gate → Bool
 twin h g =
-    (kind h == kind g)
+    kind h == kind g
     && (target h == target g
     && (proper g
     && ((control h == control g && other_control h == other_control g) || (control h == other_control g && other_control h == control g))))

@@ -3,4 +3,4 @@ use Rattle.amplitude.specs.Ring.{rooted, Within}
 use Rattle.amplitude.proofs.Amplitude.rooted.Given as goal
 
 abbrev pub invariant-loop-done : goal.invariant-loop-done
-invariant-loop-done l = (l.result ≡ rooted l.-done l.initial.result) × Within (2 ^ (61 - (l.times - l.-done))) l.result
+invariant-loop-done l = (l.result ≡ rooted l._done l.initial.result) × Within (2 ^ (61 - (l.times - l._done))) l.result

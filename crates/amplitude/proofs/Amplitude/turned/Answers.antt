@@ -24,5 +24,5 @@ returns-in-5 c = arm c.args.eighths 5 c.args.self _ c.in-5.is (parts (kept c.arg
 pub returns-in-6 : goal.returns-in-6
 returns-in-6 c = arm c.args.eighths 6 c.args.self _ c.in-6.is (parts (kept c.args.self.w2 c.requires.of_w2 ∙ sym (twice c.args.self.w2), kept c.args.self.w3 c.requires.of_w3 ∙ sym (twice c.args.self.w3), kept_neg c.args.self.one c.requires.of_one, kept_neg c.args.self.w c.requires.of_w))
 
-pub returns-in-default : goal.returns-in-default
-returns-in-default c = arm c.args.eighths 7 c.args.self _ (search rules) (parts (kept c.args.self.w c.requires.of_w ∙ sym (twice c.args.self.w), kept c.args.self.w2 c.requires.of_w2 ∙ sym (twice c.args.self.w2), kept c.args.self.w3 c.requires.of_w3 ∙ sym (twice c.args.self.w3), kept_neg c.args.self.one c.requires.of_one))
+pub returns-in_default : goal.returns-in_default
+returns-in_default c = arm c.args.eighths 7 c.args.self _ (search rules) (parts (kept c.args.self.w c.requires.of_w ∙ sym (twice c.args.self.w), kept c.args.self.w2 c.requires.of_w2 ∙ sym (twice c.args.self.w2), kept c.args.self.w3 c.requires.of_w3 ∙ sym (twice c.args.self.w3), kept_neg c.args.self.one c.requires.of_one))

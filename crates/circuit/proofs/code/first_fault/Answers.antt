@@ -12,7 +12,7 @@ pub loop-i-preserved : goal.loop-i-preserved
 loop-i-preserved c =
     let next : 4 * (c.loop-i.i + 1) ≡ 4 * c.loop-i.i + 4 = omega arith in
     ap (λ (k : ℕ). fault_from k (drop k c.args.numbers.now)) next
-    ∙ sym (fault_next c.args.numbers.now (4 * c.loop-i.i) (omega arith) _ (sym c.in-default.is ∙ c.fault_of.ensures))
+    ∙ sym (fault_next c.args.numbers.now (4 * c.loop-i.i) (omega arith) _ (sym c.in_default.is ∙ c.fault_of.ensures))
     ∙ c.loop-i.invariant
 
 pub returns : goal.returns

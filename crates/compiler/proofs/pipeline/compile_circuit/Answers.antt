@@ -14,27 +14,27 @@ use Rattle.compiler.proofs.Main.{expanded-same}
 use Rattle.compiler.proofs.Refusing.{passed, not_refused}
 use Rattle.compiler.proofs.pipeline.compile_circuit.Goals as goal
 
-pub slice-bounds-plain-end : goal.slice-bounds-plain-end
-slice-bounds-plain-end c =
+pub slice_bounds-plain-end : goal.slice_bounds-plain-end
+slice_bounds-plain-end c =
     let gates = c.args.gates.now in
-    let ok = passed c.args.n c.args.size c.args.joined.now c.args.place.now gates (length c.args.place-out.now) c.in-default.ensures in
+    let ok = passed c.args.n c.args.size c.args.joined.now c.args.place.now gates (length c.args.place_out.now) c.in_default.ensures in
     omega (arith, c.decompose-count.ensures.count, length-expanded gates, ok.few, c.decompose-count.auto.out)
 
 pub route-numbers-requires : goal.route-numbers-requires
 route-numbers-requires c =
     let gates = c.args.gates.now in
     let place = c.args.place.now in
-    let device = graph_of c.device-from-device.result in
-    let ok = passed c.args.n c.args.size c.args.joined.now place gates (length c.args.place-out.now) c.in-default.ensures in
+    let device = graph_of c.device_from-device.result in
+    let ok = passed c.args.n c.args.size c.args.joined.now place gates (length c.args.place_out.now) c.in_default.ensures in
     let plain = expanded-same c.args.n gates ok.fit in
-    let copied : place ≡ c.copy-from-slice.new.self = sym c.copy-from-slice.ensures.after in
-    let long : c.args.n ≡ length c.copy-from-slice.new.self = sym ok.long ∙ ap length copied in
+    let copied : place ≡ c.copy_from_slice.new.self = sym c.copy_from_slice.ensures.after in
+    let long : c.args.n ≡ length c.copy_from_slice.new.self = sym ok.long ∙ ap length copied in
     let written = sym c.decompose-count.ensures.written in
     record {
-      joined = c.in-default-cut-off.ensures;
-      placed = subst (λ (p : List ℕ). Placed (length p) device (at p)) copied (placed_from device c.args.size place (ap (λ (d : Graph). d.size) c.device-from-device.ensures) ok.placed);
+      joined = c.in_default-cut_off.ensures;
+      placed = subst (λ (p : List ℕ). Placed (length p) device (at p)) copied (placed_from device c.args.size place (ap (λ (d : Graph). d.size) c.device_from-device.ensures) ok.placed);
       plain = subst AllPlain written plain.plain;
-      fits = subst (AllFit (length c.copy-from-slice.new.self)) written (subst (λ k. AllFit k (expanded gates)) long plain.fit);
+      fits = subst (AllFit (length c.copy_from_slice.new.self)) written (subst (λ k. AllFit k (expanded gates)) long plain.fit);
       room = omega (arith, ap costs written, costs-expanded gates, c.if-room-gates.false);
     }
 
@@ -46,12 +46,12 @@ returns c =
     let place = c.args.place.now in
     let gates = c.args.gates.now in
     let room = c.args.room.now in
-    let out = c.args.place-out.now in
-    let ok = passed n size joined place gates (length out) c.in-default.ensures in
+    let out = c.args.place_out.now in
+    let ok = passed n size joined place gates (length out) c.in_default.ensures in
     let gs = c.decompose-count.ensures.written in
-    not_refused _ n size joined place gates room c.route-numbers.new.room out c.route-numbers.new.place (Compiled (c.route-numbers.result / 4)) c.in-default.ensures (
-      subst Connected c.device-from-device.ensures c.in-default-cut-off.ensures,
+    not_refused _ n size joined place gates room c.route-numbers.new.room out c.route-numbers.new.place (Compiled (c.route-numbers.result / 4)) c.in_default.ensures (
+      subst Connected c.device_from-device.ensures c.in_default-cut_off.ensures,
       omega (arith, c.if-room-gates.false),
-      compiled_fills n (graph_in size joined) _ place _ _ gates _ room _ _ c.device-from-device.ensures c.copy-from-slice.ensures.after ok.long gs ok.fit
+      compiled_fills n (graph_in size joined) _ place _ _ gates _ room _ _ c.device_from-device.ensures c.copy_from_slice.ensures.after ok.long gs ok.fit
           (omega (arith, c.route-numbers.ensures.most, ap costs gs, costs-expanded gates, c.if-room-gates.false)) c.route-numbers.ensures.done,
     )

@@ -11,11 +11,11 @@ use Rattle.compiler.proofs.routing.route.Goals as goal
 pub loop-i-init : goal.loop-i-init
 loop-i-init c = (emit_none (length c.args.place.now) (graph_of c.args.device.now) (at c.args.place.now) c.args.room.now c.requires.placed, omega arith)
 
-pub slice-bounds-step-count-in-loop-i : goal.slice-bounds-step-count-in-loop-i
-slice-bounds-step-count-in-loop-i c = omega (arith, c.loop-i.invariant.1, costs_front c.args.gates.now c.loop-i.i, c.requires.room)
+pub slice_bounds-step-count-in-loop-i : goal.slice_bounds-step-count-in-loop-i
+slice_bounds-step-count-in-loop-i c = omega (arith, c.loop-i.invariant.1, costs_front c.args.gates.now c.loop-i.i, c.requires.room)
 
-pub slice-bounds-step-start-in-loop-i : goal.slice-bounds-step-start-in-loop-i
-slice-bounds-step-start-in-loop-i c = omega (arith, c.loop-i.invariant.1, costs_front c.args.gates.now c.loop-i.i, c.requires.room)
+pub slice_bounds-step-start-in-loop-i : goal.slice_bounds-step-start-in-loop-i
+slice_bounds-step-start-in-loop-i c = omega (arith, c.loop-i.invariant.1, costs_front c.args.gates.now c.loop-i.i, c.requires.room)
 
 pub step-k-requires : goal.step-k-requires
 step-k-requires c =
@@ -25,15 +25,15 @@ step-k-requires c =
     let n : length c.args.place.now ≡ length c.loop-i.place = sym c.loop-i.auto.place in
     record {
       joined = c.requires.joined;
-      grown = c.all-ways-ways.ensures;
+      grown = c.all_ways-ways.ensures;
       placed = subst (λ k. Placed k (graph_of c.args.device.now) (at c.loop-i.place)) n c.loop-i.invariant.0.doing.placed;
       plain = plain_at gates i (Phase 0 0) h c.requires.plain;
       fits = subst (λ k. Fit k (get_or gates i (Phase 0 0))) n (fit_at (length c.args.place.now) gates i (Phase 0 0) h c.requires.fits);
       room = simp take_rest (simp length-drop (omega (arith, costs-more gates i (Phase 0 0) h, costs_front gates (i + 1), c.loop-i.invariant.1, c.requires.room, c.loop-i.auto.room)));
     }
 
-pub overflow-add-k : goal.overflow-add-k
-overflow-add-k c =
+pub overflow_add-k : goal.overflow_add-k
+overflow_add-k c =
     let gates = c.args.gates.now in
     let i = c.loop-i.i in
     omega (arith, costs-more gates i (Phase 0 0) c.loop-i-test.true, costs_front gates (i + 1), c.loop-i.invariant.1, c.step-k.ensures.most, c.requires.room)

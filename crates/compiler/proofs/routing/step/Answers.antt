@@ -63,5 +63,5 @@ returns-in-ControlledNot c =
     let f : Fit (length c.args.place.now) (ControlledNot control target) = subst (Fit (length c.args.place.now)) c.in-ControlledNot.is c.requires.fits in
     record {
       most = omega (arith, c.bring-k.ensures.most, ap cost c.in-ControlledNot.is);
-      done = emit_as _ (ControlledNot control target) c.in-ControlledNot.is (emit_controlled c.write-cnot.new.room control target f c.bring-k.ensures.near c.write-cnot.ensures c.bring-k.ensures.done);
+      done = emit_as _ (ControlledNot control target) c.in-ControlledNot.is (emit_controlled c.write_cnot.new.room control target f c.bring-k.ensures.near c.write_cnot.ensures c.bring-k.ensures.done);
     }

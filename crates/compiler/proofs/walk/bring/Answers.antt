@@ -26,21 +26,21 @@ few : (n : ℕ) (d : Graph) (w : Ways) (p : ℕ → ℕ) (x y made : ℕ) → Co
 few n d w p x y made cd all l two nj h =
     omega (arith, h, apart-two d w all cd (p x) (p y) (l.inside x two.0) (l.inside y two.1) (λ e. two.2 (l.apart x y two.0 two.1 e)) (λ e. both_ways _ (sym nj) e))
 
-pub write-swap-requires : goal.write-swap-requires
-write-swap-requires c =
+pub write_swap-requires : goal.write_swap-requires
+write_swap-requires c =
     let made : c.loop-a.made < 14 = few (length c.args.place.now) (graph_of c.args.device.now) c.args.ways.now (at c.loop-a.place) c.args.control c.args.target c.loop-a.made c.requires.joined c.requires.grown c.loop-a.invariant.0.doing.placed c.requires.two c.loop-a-test.ensures c.loop-a.invariant.1 in
     simp take_rest (simp length-drop (omega (arith, c.requires.room, c.loop-a.auto.room)))
 
 pub loop-a-preserved : goal.loop-a-preserved
 loop-a-preserved c =
-    let x = c.next-swap-x.result.0 in
-    let y = c.next-swap-x.result.1 in
-    let s = c.next-swap-x.ensures in
+    let x = c.next_swap-x.result.0 in
+    let y = c.next_swap-x.result.1 in
+    let s = c.next_swap-x.ensures in
     let room = c.loop-a.room in
-    let moved : (k : ℕ) → k < length c.args.place.now → get_or c.move-all.new.place k 0 ≡ other x y (get_or c.loop-a.place k 0) = λ k h. c.move-all.ensures k (omega arith) in
+    let moved : (k : ℕ) → k < length c.args.place.now → get_or c.move_all.new.place k 0 ≡ other x y (get_or c.loop-a.place k 0) = λ k h. c.move_all.ensures k (omega arith) in
     let e : 12 * c.loop-a.made + 12 ≡ 12 * (c.loop-a.made + 1) = omega arith in
-    let room1 = put_mid (12 * c.loop-a.made) (length room - 12 * c.loop-a.made) room c.write-swap.new.room in
-    let m = emit_swap c.loop-a.place c.move-all.new.place c.write-swap.new.room x y c.requires.joined s.x_inside s.y_inside s.differs s.joined moved c.write-swap.ensures c.loop-a.invariant.0 in (
-      subst (λ k. Emitted (length c.args.place.now) (graph_of c.args.device.now) (at c.args.place.now) (at c.move-all.new.place) [] c.args.room.now room1 k) e m,
+    let room1 = put_mid (12 * c.loop-a.made) (length room - 12 * c.loop-a.made) room c.write_swap.new.room in
+    let m = emit_swap c.loop-a.place c.move_all.new.place c.write_swap.new.room x y c.requires.joined s.x_inside s.y_inside s.differs s.joined moved c.write_swap.ensures c.loop-a.invariant.0 in (
+      subst (λ k. Emitted (length c.args.place.now) (graph_of c.args.device.now) (at c.args.place.now) (at c.move_all.new.place) [] c.args.room.now room1 k) e m,
       omega (arith, ap₂ (apart c.args.ways.now) (moved c.args.control c.requires.two.0) (moved c.args.target c.requires.two.1), s.enough),
     )

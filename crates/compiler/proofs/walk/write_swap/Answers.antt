@@ -10,4 +10,4 @@ unfolding codes swap_gates
 returns c =
     let one = code (ControlledNot c.args.x c.args.y) in
     let two = code (ControlledNot c.args.y c.args.x) in
-    over-more (one ++ two) one c.args.room.now _ _ 8 (over-more one two c.args.room.now _ _ 4 c.write-cnot.ensures refl c.write-cnot-2.ensures) refl c.write-cnot-3.ensures
+    over-more (one ++ two) one c.args.room.now _ _ 8 (over-more one two c.args.room.now _ _ 4 c.write_cnot.ensures refl c.write_cnot-2.ensures) refl c.write_cnot-3.ensures

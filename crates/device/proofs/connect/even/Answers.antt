@@ -13,5 +13,5 @@ pub loop-a-preserved : goal.loop-a-preserved
 loop-a-preserved c =
     let d = c.args.device.now in
     let P : ℕ → Type 0 = λ x. (y : ℕ) → y < d.size → wired d x y ≡ wired d y x in
-    let p = below_more P c.loop-a.a (λ x h y. c.loop-a.invariant x y h) c.in-default.ensures in
+    let p = below_more P c.loop-a.a (λ x h y. c.loop-a.invariant x y h) c.in_default.ensures in
     λ x y h. p x h y

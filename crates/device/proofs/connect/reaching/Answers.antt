@@ -24,5 +24,5 @@ loop-a-preserved c =
     let d = graph_of c.args.device.now in
     let t = c.grow-tree.result in
     let P : ℕ → Type 0 = λ x. (y : ℕ) → y < d.size → Way d x y in
-    let p = below_more P c.loop-a.a (λ x h y. c.loop-a.invariant x y h) (λ y h. way_to d c.loop-a.a t.distance t.toward c.grow-tree.ensures.grown y h (c.in-default.ensures y h)) in
+    let p = below_more P c.loop-a.a (λ x h y. c.loop-a.invariant x y h) (λ y h. way_to d c.loop-a.a t.distance t.toward c.grow-tree.ensures.grown y h (c.in_default.ensures y h)) in
     λ x y h. p x h y

@@ -16,12 +16,12 @@ unfolding holds
 loop-y-preserved c =
     let i = c.loop-y.invariant in
     let d = graph_of c.args.device.now in
-    let fx : get_or c.loop-y.tree.distance c.args.x 0 < 255 = omega (arith, i.2.kept c.args.x c.requires.0 c.requires.1, c.requires.1) in
+    let fx : get_or c.loop-y.tree.distance c.args.x 0 < 255 = omega (arith, i.2.kept c.args.x c.requires.place c.requires.near, c.requires.near) in
     elim c.if-tree-y.branch [
       | then-tree-y+then-joins w ↦ subst (holds c) (sym w.tree-is) (
-        grown_more d _ _ _ i.0 (omega arith) c.args.x c.loop-y.y c.requires.0 c.loop-y-test.true fx w.if-tree-y.true (sym w.if-joins.ensures),
+        grown_more d _ _ _ i.0 (omega arith) c.args.x c.loop-y.y c.requires.place c.loop-y-test.true fx w.if-tree-y.true (sym w.if-joins.ensures),
         i.1,
-        spread_more d _ _ _ i.0 (omega arith) c.args.x c.loop-y.y c.requires.0 c.loop-y-test.true fx w.if-tree-y.true (sym w.if-joins.ensures) _ c.requires.1 i.2,
+        spread_more d _ _ _ i.0 (omega arith) c.args.x c.loop-y.y c.requires.place c.loop-y-test.true fx w.if-tree-y.true (sym w.if-joins.ensures) _ c.requires.near i.2,
       )
       | else-tree-y w ↦ subst (holds c) (sym w.tree-is) (
         i.0,

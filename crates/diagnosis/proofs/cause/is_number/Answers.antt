@@ -1,4 +1,4 @@
-use Rattle.std.proofs.Common.{◌≡◌, ℕ, ◌+◌, ◌<◌, Bool, true, false, cond, not, ◌&&◌, List, length, get_or, drop, sym, refl, ap, ◌∙◌}
+use Rattle.std.proofs.Common.{◌≡◌, ℕ, ◌+◌, ◌<◌, Bool, true, false, cond, not, ◌&&◌, List, length, get_or, drop, sym, ap, ◌∙◌}
 use Rattle.std.proofs.lemmas.List.{at_drop_more, at_drop_all}
 use Rattle.message.specs.Where.{in_word}
 use Rattle.text.specs.Spelling.{digit, class}
@@ -14,15 +14,15 @@ module _ (bs : List ℕ) (i : ℕ) (some : Bool) (inside : i < length bs) (so_fa
 pub returns-then-some : goal.returns-then-some
 returns-then-some c =
     c.ends_word.ensures ∙ ap (λ b. b && not (in_word (class (get_or c.args.bytes.now c.loop-b.b-index 0)))) (sym c.if-some.true)
-    ∙ next-byte c.args.bytes.now c.loop-b.b-index c.loop-b.some c.loop-b-test.true c.loop-b.invariant false c.if-not-is-digit.ensures
+    ∙ next-byte c.args.bytes.now c.loop-b.b-index c.loop-b.some c.loop-b-test.true c.loop-b.invariant false c.if-not-is_digit.ensures
 
 pub returns-else-some : goal.returns-else-some
 returns-else-some c =
     c.if-some.false ∙ ap (λ b. b && not (in_word (class (get_or c.args.bytes.now c.loop-b.b-index 0)))) (sym c.if-some.false)
-    ∙ next-byte c.args.bytes.now c.loop-b.b-index c.loop-b.some c.loop-b-test.true c.loop-b.invariant false c.if-not-is-digit.ensures
+    ∙ next-byte c.args.bytes.now c.loop-b.b-index c.loop-b.some c.loop-b-test.true c.loop-b.invariant false c.if-not-is_digit.ensures
 
 pub loop-b-preserved : goal.loop-b-preserved
-loop-b-preserved c = next-byte c.args.bytes.now c.loop-b.b-index c.loop-b.some c.loop-b-test.true c.loop-b.invariant true c.if-not-is-digit.ensures
+loop-b-preserved c = next-byte c.args.bytes.now c.loop-b.b-index c.loop-b.some c.loop-b-test.true c.loop-b.invariant true c.if-not-is_digit.ensures
 
 pub returns : goal.returns
 unfolding digits_from

@@ -5,7 +5,7 @@ use Rattle.text.specs.Accept.{accepts}
 use Rattle.text.specs.Reading.{view}
 use Rattle.diagnosis.proofs.Candidates.{kept_yes, kept_no}
 use Rattle.diagnosis.proofs.expect.accepted.Goals as goal
-use Rattle.diagnosis.proofs.expect.accepted.Goals.{then-accepts+in-ok-push, else-accepts}
+use Rattle.diagnosis.proofs.expect.accepted.Goals.{then-accepts+in_ok-push, else-accepts}
 
 pub loop-t-preserved : goal.loop-t-preserved
 loop-t-preserved c =
@@ -13,7 +13,7 @@ loop-t-preserved c =
     let out = vec_items c.loop-t.out in
     let new = vec_items c.if-accepts.out in
     elim c.if-accepts.branch [
-      | then-accepts+in-ok-push w ↦ kept_yes p c.args.signs.now c.loop-t.t-index Turn c.loop-t-test.true out new c.loop-t.invariant (sym c.accepts.ensures.exact ∙ w.if-accepts.true) (ap vec_items w.out-is ∙ w.in-ok-push.ensures.items)
+      | then-accepts+in_ok-push w ↦ kept_yes p c.args.signs.now c.loop-t.t-index Turn c.loop-t-test.true out new c.loop-t.invariant (sym c.accepts.ensures.exact ∙ w.if-accepts.true) (ap vec_items w.out-is ∙ w.in_ok-push.ensures.items)
       | else-accepts w ↦ kept_no p c.args.signs.now c.loop-t.t-index Turn c.loop-t-test.true out new c.loop-t.invariant (sym c.accepts.ensures.exact ∙ w.if-accepts.false) (ap vec_items w.out-is)
     ]
 

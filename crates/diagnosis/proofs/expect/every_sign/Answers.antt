@@ -14,12 +14,12 @@ no_numbers xs e = e ∙ sym (append-nil words)
 
 pub loop-n-init : goal.loop-n-init
 unfolding words
-loop-n-init c = no_numbers (vec_items c.in-ok-signs.signs) c.in-ok-signs.ensures.items
+loop-n-init c = no_numbers (vec_items c.in_ok-signs.signs) c.in_ok-signs.ensures.items
 
 pub loop-n-preserved : goal.loop-n-preserved
 loop-n-preserved c =
     let n = c.loop-n.n in
-    c.in-ok-push.ensures.items ∙ ap (λ r. r ++ Number n ∷ []) c.loop-n.invariant ∙ append_assoc words (numbers n) (Number n ∷ []) ∙ ap (λ r. words ++ r) (sym (numbers_more n))
+    c.in_ok-push.ensures.items ∙ ap (λ r. r ++ Number n ∷ []) c.loop-n.invariant ∙ append_assoc words (numbers n) (Number n ∷ []) ∙ ap (λ r. words ++ r) (sym (numbers_more n))
 
 pub returns : goal.returns
 returns c = let e : c.loop-n.n ≡ 256 = omega arith in c.loop-n.invariant ∙ ap (λ n. words ++ numbers n) e

@@ -8,11 +8,11 @@ use Rattle.job.proofs.numbers.numbers_in.Goals as goal
 pub loop-t-init : goal.loop-t-init
 loop-t-init c = ap (λ ms. before ms (numbers c.args.tokens.now)) c.new-out.ensures.items ∙ before-none (numbers c.args.tokens.now)
 
-pub returns-in-default : goal.returns-in-default
-returns-in-default c = sym (number-none (vec_items c.loop-t.out) c.args.tokens.now c.loop-t.t-index Turn c.loop-t-test.true (sym c.in-default.ensures)) ∙ c.loop-t.invariant
+pub returns-in_default : goal.returns-in_default
+returns-in_default c = sym (number-none (vec_items c.loop-t.out) c.args.tokens.now c.loop-t.t-index Turn c.loop-t-test.true (sym c.in_default.ensures)) ∙ c.loop-t.invariant
 
 pub loop-t-preserved : goal.loop-t-preserved
-loop-t-preserved c = ap (λ ms. before ms (numbers (drop (c.loop-t.t-index + 1) c.args.tokens.now))) c.in-ok-push.ensures.items
+loop-t-preserved c = ap (λ ms. before ms (numbers (drop (c.loop-t.t-index + 1) c.args.tokens.now))) c.in_ok-push.ensures.items
     ∙ number_more (vec_items c.loop-t.out) c.args.tokens.now c.loop-t.t-index Turn c.loop-t-test.true c.in-Some.n (sym c.in-Some.ensures) ∙ c.loop-t.invariant
 
 pub returns : goal.returns

@@ -1,4 +1,4 @@
-use Rattle.std.proofs.Common.{◌≡◌, List, Err, vec_items, subst}
+use Rattle.std.proofs.Common.{List, Err, vec_items, subst}
 use Rattle.std.proofs.lemmas.Result.{err_from_is_err_and}
 use Rattle.circuit.specs.declared.gate.Gate.{Gate}
 use Rattle.device.specs.Coupling.{graph_in}
@@ -9,22 +9,22 @@ use Rattle.message.specs.Compiled.{Brought}
 use Rattle.message.proofs.Jobs.{brought_on, checked, still_brought}
 use Rattle.message.proofs.compiling.bring.Goals as goal
 
-pub returns-in-err-compiled : goal.returns-in-err-compiled
-returns-in-err-compiled c =
-    let p = err_from_is_err_and c.from-residual.result c.from-residual.ensures.1 in
+pub returns-in_err-compiled : goal.returns-in_err-compiled
+returns-in_err-compiled c =
+    let p = err_from_is_err_and c.from_residual.result c.from_residual.ensures.1 in
     rw (p.1, p.2)
-    (still_brought c.args.circuit.qubits (vec_items c.args.circuit.gates) (vec_items c.tidy-unless.new.gates) (whole c.args.plan.now).0 (whole c.args.plan.now).1
+    (still_brought c.args.circuit.qubits (vec_items c.args.circuit.gates) (vec_items c.tidy_unless.new.gates) (whole c.args.plan.now).0 (whole c.args.plan.now).1
     (checked c.args.circuit.qubits (c.from.result, c.deref.result.now, c.deref-2.result.now, c.deref-3.result.now)
     (c.args.plan.now.size, vec_items c.args.plan.now.joined, vec_items c.args.plan.now.layout, vec_items c.args.circuit.gates)
-    (λ i. (c.from.ensures i, c.deref.ensures.value i, c.deref-2.ensures.value i, c.deref-3.ensures.value i)) c.in-default.ensures)
-    c.tidy-unless.ensures c.in-err-compiled.field-0.0
-    (subst (λ (xs : List Gate). Brought c.args.circuit.qubits xs (whole c.args.plan.now).0 (whole c.args.plan.now).1 (Err c.in-err-compiled.field-0.0)) c.deref-4.ensures.value c.in-err-compiled.ensures))
+    (λ i. (c.from.ensures i, c.deref.ensures.value i, c.deref-2.ensures.value i, c.deref-3.ensures.value i)) c.in_default.ensures)
+    c.tidy_unless.ensures c.in_err-compiled.field-0.0
+    (subst (λ (xs : List Gate). Brought c.args.circuit.qubits xs (whole c.args.plan.now).0 (whole c.args.plan.now).1 (Err c.in_err-compiled.field-0.0)) c.deref-4.ensures.value c.in_err-compiled.ensures))
 
 pub returns : goal.returns
 returns c =
-    brought_on c.args.circuit.qubits (graph_in c.args.plan.now.size (vec_items c.args.plan.now.joined)) (at (vec_items c.args.plan.now.layout)) (at (vec_items c.in-ok-compiled.compiled.layout))
-    (vec_items c.args.circuit.gates) (vec_items c.tidy-unless.new.gates) (vec_items c.in-ok-compiled.compiled.gates) (vec_items c.tidy-unless-2.new.gates)
-    c.tidy-unless.ensures
-    (subst (λ (xs : List Gate). CarriesOut c.args.circuit.qubits (graph_in c.args.plan.now.size (vec_items c.args.plan.now.joined)) (at (vec_items c.args.plan.now.layout)) (at (vec_items c.in-ok-compiled.compiled.layout)) xs (vec_items c.in-ok-compiled.compiled.gates))
-    c.deref-4.ensures.value c.in-ok-compiled.ensures)
-    c.tidy-unless-2.ensures
+    brought_on c.args.circuit.qubits (graph_in c.args.plan.now.size (vec_items c.args.plan.now.joined)) (at (vec_items c.args.plan.now.layout)) (at (vec_items c.in_ok-compiled.compiled.layout))
+    (vec_items c.args.circuit.gates) (vec_items c.tidy_unless.new.gates) (vec_items c.in_ok-compiled.compiled.gates) (vec_items c.tidy_unless-2.new.gates)
+    c.tidy_unless.ensures
+    (subst (λ (xs : List Gate). CarriesOut c.args.circuit.qubits (graph_in c.args.plan.now.size (vec_items c.args.plan.now.joined)) (at (vec_items c.args.plan.now.layout)) (at (vec_items c.in_ok-compiled.compiled.layout)) xs (vec_items c.in_ok-compiled.compiled.gates))
+    c.deref-4.ensures.value c.in_ok-compiled.ensures)
+    c.tidy_unless-2.ensures

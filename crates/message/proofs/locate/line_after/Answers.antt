@@ -1,4 +1,4 @@
-use Rattle.std.proofs.Common.{◌≡◌, ℕ, ◌+◌, Bool, cond, eqb, get_or, sym, ap, ◌∙◌, arith, eq-eqb, ne_eqb}
+use Rattle.std.proofs.Common.{◌+◌, Bool, cond, eqb, get_or, sym, ap, ◌∙◌, arith, eq-eqb, ne_eqb}
 use Rattle.message.proofs.Wherein.{after_more, after-all}
 use Rattle.message.proofs.locate.line_after.Goals as goal
 use Rattle.message.proofs.locate.line_after.Goals.{then-b-eq10, else-b-eq10}

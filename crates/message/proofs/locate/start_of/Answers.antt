@@ -8,14 +8,14 @@ use Rattle.message.proofs.locate.start_of.Goals.{then-begins+else-left-eq0, else
 pub returns-then-left-eq0 : goal.returns-then-left-eq0
 returns-then-left-eq0 c = record {
   exact = found c.args.text.now c.loop-i.i c.loop-i.inside c.loop-i.left _ c.loop-i-test.true c.loop-i.invariant
-      (sym (ap (λ (k : Class). begins k c.loop-i.inside) c.class-of-class.ensures) ∙ sym c.begins.ensures ∙ c.if-begins.true) c.if-left-eq0.true;
+      (sym (ap (λ (k : Class). begins k c.loop-i.inside) c.class_of-class.ensures) ∙ sym c.begins.ensures ∙ c.if-begins.true) c.if-left-eq0.true;
   within = omega arith;
 }
 
 pub loop-i-preserved : goal.loop-i-preserved
 loop-i-preserved c =
-    let word = c.in-word-inside.ensures ∙ ap in_word c.class-of-class.ensures in
-    let test = sym (ap (λ (k : Class). begins k c.loop-i.inside) c.class-of-class.ensures) ∙ sym c.begins.ensures in
+    let word = c.in_word-inside.ensures ∙ ap in_word c.class_of-class.ensures in
+    let test = sym (ap (λ (k : Class). begins k c.loop-i.inside) c.class_of-class.ensures) ∙ sym c.begins.ensures in
     elim c.if-begins.branch [
       | then-begins+else-left-eq0 w ↦
           let fewer : c.loop-i.left ≡ suc (c.loop-i.left - 1) = omega (arith, w.if-left-eq0.false) in

@@ -11,9 +11,9 @@ pub loop-gate-preserved : goal.loop-gate-preserved
 loop-gate-preserved c = (
   left-more (λ g. statement g ++ codes "\n") c.args.gates.now (string_bytes c.loop-gate.out) _ c.loop-gate.gate-index (statements c.args.gates.now) (Phase 0 0)
       c.loop-gate-test.true c.loop-gate.invariant.0
-      (c.in-ok-push-str-2.ensures.bytes ∙ ap (λ (s : List ℕ). s ++ codes "\n") c.in-ok-push-str.ensures.bytes
+      (c.in_ok-push_str-2.ensures.bytes ∙ ap (λ (s : List ℕ). s ++ codes "\n") c.in_ok-push_str.ensures.bytes
       ∙ append_assoc (string_bytes c.loop-gate.out) _ (codes "\n") ∙ ap (λ (s : List ℕ). string_bytes c.loop-gate.out ++ (s ++ codes "\n")) (search rules)),
-  All-more Small c.args.gates.now c.loop-gate.gate-index (Phase 0 0) c.loop-gate-test.true c.loop-gate.invariant.1 c.show-gate.ensures.small,
+  All-more Small c.args.gates.now c.loop-gate.gate-index (Phase 0 0) c.loop-gate-test.true c.loop-gate.invariant.1 c.show_gate.ensures.small,
 )
 
 pub returns : goal.returns

@@ -11,7 +11,7 @@ loop-place-preserved c =
 pub returns : goal.returns
 returns c = record {
   exact =
-      c.in-ok-push-str-2.ensures.bytes
+      c.in_ok-push_str-2.ensures.bytes
       ∙ ap (λ ys. ys ++ codes "\n") (left-none (λ p. codes " " ++ decimal p) c.args.layout.now (string_bytes c.loop-place.out) c.loop-place.place-index _ c.loop-place-test.false c.loop-place.invariant);
-  small = All-from_get_or (λ p. p < 256) c.args.layout.now 0 (λ i l. (c.type-inv.layout i).fits);
+  small = All-from_get_or (λ p. p < 256) c.args.layout.now 0 (λ i l. (c.type_inv.layout i).fits);
 }

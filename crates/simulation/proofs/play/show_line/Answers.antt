@@ -8,6 +8,6 @@ pub returns : goal.returns
 returns c =
     let rest = codes ": " ++ (amplitude_text c.args.a ++ codes "\n") in
     subst (λ (x : List ℕ). IfOk c.format.result (λ s. string_bytes s ≡ x))
-    (ap (λ (r : List ℕ). r ++ rest) c.in-ok-row.ensures
-    ∙ ap (λ (t : Bool). cond t [] (row_text c.args.qubits (row c.args.qubits c.args.at) ++ rest)) c.if-is-zero.ensures)
+    (ap (λ (r : List ℕ). r ++ rest) c.in_ok-row.ensures
+    ∙ ap (λ (t : Bool). cond t [] (row_text c.args.qubits (row c.args.qubits c.args.at) ++ rest)) c.if-is_zero.ensures)
     c.format.ensures.ok

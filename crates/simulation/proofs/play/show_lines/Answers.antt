@@ -11,4 +11,4 @@ loop-at-init c = c.new-out.ensures.bytes
 pub loop-at-preserved : goal.loop-at-preserved
 loop-at-preserved c =
     line-more c.args.state.now.qubits c.loop-at.at (λ k. get_or c.args.state.now.amplitudes k nought) _ _ c.loop-at.invariant
-    (c.in-ok-push-str.ensures.bytes ∙ ap (λ (s : List ℕ). string_bytes c.loop-at.out ++ s) (search rules))
+    (c.in_ok-push_str.ensures.bytes ∙ ap (λ (s : List ℕ). string_bytes c.loop-at.out ++ s) (search rules))

@@ -1,4 +1,4 @@
-use Rattle.std.proofs.Common.{◌≡◌, ℕ, ◌+◌, ◌*◌, ◌^◌, ◌<◌, Bool, cond, length, sym, refl, ap, ◌∙◌, subst, arith}
+use Rattle.std.proofs.Common.{◌≡◌, ℕ, ◌+◌, ◌^◌, ◌<◌, Bool, cond, sym, refl, ap, ◌∙◌, subst, arith}
 use Rattle.circuit.specs.Rows.{number}
 use Rattle.circuit.proofs.Numbers.{number-below}
 use Rattle.simulation.specs.Playing.{row_of}

@@ -3,7 +3,7 @@ use Rattle.std.proofs.lemmas.List.{get_or-set_same, get_or-set_other, length-set
 use Rattle.std.proofs.lemmas.Bool.Decides.{nat_tests}
 use Rattle.laws.specs.Rename.{about}
 use Rattle.summary.proofs.schedule.occupy.Goals as goal
-use Rattle.summary.proofs.schedule.occupy.Goals.{in-ControlledNot, in-Toffoli, in-default}
+use Rattle.summary.proofs.schedule.occupy.Goals.{in-ControlledNot, in-Toffoli, in_default}
 
 set_is : (xs : List ℕ) (i e k : ℕ) → i < length xs → get_or (set xs i e) k 0 ≡ cond (eqb k i) e (get_or xs k 0)
 set_is xs i e k l = grind (arith, nat_tests, get_or-set_same xs i e 0 l, get_or-set_other xs i k e 0)
@@ -20,5 +20,5 @@ returns c k =
           let one = set_is old w.from-in-Toffoli.result end k in
           let two = set_is (set old w.from-in-Toffoli.result end) w.from-in-Toffoli-2.result end k in
           grind (arith, nat_tests, length-set)
-      | in-default w ↦ grind (arith, nat_tests)
+      | in_default w ↦ grind (arith, nat_tests)
     ]

@@ -5,7 +5,7 @@ use Rattle.circuit.specs.declared.gate.Gate.{Gate}
 use Rattle.circuit.specs.declared.gate.Gate.TheVariants.{Phase}
 use Rattle.summary.specs.Counts.{tally, is_cnot, is_toffoli}
 use Rattle.summary.proofs.tally.count.Goals as goal
-use Rattle.summary.proofs.tally.count.Goals.{in-Phase, in-ControlledNot, in-Toffoli, in-default}
+use Rattle.summary.proofs.tally.count.Goals.{in-Phase, in-ControlledNot, in-Toffoli, in_default}
 
 pub loop-gate-preserved : goal.loop-gate-preserved
 unfolding tally t_count
@@ -19,7 +19,7 @@ loop-gate-preserved c =
       | in-Phase w ↦ grind arith
       | in-ControlledNot w ↦ grind arith
       | in-Toffoli w ↦ grind arith
-      | in-default w ↦ grind arith
+      | in_default w ↦ grind arith
     ]
 
 pub returns : goal.returns

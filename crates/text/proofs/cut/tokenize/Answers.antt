@@ -1,6 +1,5 @@
 use Rattle.std.proofs.Common.{◌++◌, vec_items, sym, ap, ◌∙◌, subst, append-nil, arith}
 use Rattle.std.proofs.lemmas.Result.{IfOk-weaker}
-use Rattle.text.specs.Cut.{cut}
 use Rattle.text.specs.Spelling.{Spells}
 use Rattle.text.proofs.Spelt.{cut-spells}
 use Rattle.text.proofs.cut.tokenize.Goals as goal

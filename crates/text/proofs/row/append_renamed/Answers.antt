@@ -12,7 +12,7 @@ loop-g-init c = sym (ap (λ r. c.args.row.now.items ++ r) (renamed-none (λ q. g
 pub loop-g-preserved : goal.loop-g-preserved
 loop-g-preserved c =
     let done = all_renamed (λ q. get_or c.args.names.now q 0) (take c.loop-g.g-index c.args.block.now) in
-    pushed (c.renamed.result ∷ []) c.loop-g.invariant c.in-ok-push.was c.push.ensures.items
+    pushed (c.renamed.result ∷ []) c.loop-g.invariant c.in_ok-push.was c.push.ensures.items
     ∙ append_assoc c.args.row.now.items done (c.renamed.result ∷ [])
     ∙ ap (λ r. c.args.row.now.items ++ r) (ap (λ g. done ++ g ∷ []) c.renamed.ensures ∙ sym (renamed-more (λ q. get_or c.args.names.now q 0) c.args.block.now c.loop-g.g-index (Phase 0 0) (omega arith)))
 

@@ -6,6 +6,6 @@ use Rattle.text.proofs.row.append_times.Goals as goal
 
 pub loop-preserved : goal.loop-preserved
 loop-preserved c =
-    pushed c.args.inner.now c.loop.invariant c.in-ok-extend-from-slice.was c.extend-from-slice.ensures.items
+    pushed c.args.inner.now c.loop.invariant c.in_ok-extend_from_slice.was c.extend_from_slice.ensures.items
     ∙ append_assoc c.args.row.now.items (repeated c.loop.counter c.args.inner.now) c.args.inner.now
     ∙ ap (λ r. c.args.row.now.items ++ r) (repeated-more c.loop.counter c.args.inner.now)

@@ -6,6 +6,6 @@ pub returns-in-Phase : goal.returns-in-Phase
 unfolding undone
 returns-in-Phase c = search rules
 
-pub returns-in-default : goal.returns-in-default
+pub returns-in_default : goal.returns-in_default
 unfolding undone
-returns-in-default c = search rules
+returns-in_default c = search rules

@@ -19,13 +19,10 @@ bounds-self-row-then-not-has-3 c =
 
 pub pair-requires : goal.pair-requires
 pair-requires c =
-    record {
-      few = c.args.self.now.few;
-      fit = c.requires.fit;
-      small = pair_within c.args.self.now.qubits c.args.gate c.requires.fit c.args.self.now.amplitudes c.loop-row.self.amplitudes
-          (here _ _ c.target-target.ensures c.weight-bit.ensures c.rows-row-end.ensures c.loop-row-test.true c.has.ensures c.if-not-has.true)
-          c.loop-row.invariant.1 (2 ^ 61) c.requires.small;
-    }
+    let small = pair_within c.args.self.now.qubits c.args.gate c.requires.fit c.args.self.now.amplitudes c.loop-row.self.amplitudes
+    (here _ _ c.target-target.ensures c.weight-bit.ensures c.rows-row-end.ensures c.loop-row-test.true c.has.ensures c.if-not-has.true)
+    c.loop-row.invariant.1 (2 ^ 61) c.requires.small in
+    record { few = c.args.self.now.few; fit = c.requires.fit; zero_small = small.0; one_small = small.1 }
 
 pub loop-row-preserved : goal.loop-row-preserved
 loop-row-preserved c =

@@ -3,13 +3,13 @@ use Rattle.job.specs.Builders.{items, view, Follows}
 use Rattle.job.proofs.PlanSteps.{says_none, says_by}
 use Rattle.job.proofs.builder.Builder.take_tokens.Goals as goal
 
-pub returns-then-is-empty : goal.returns-then-is-empty
-returns-then-is-empty c = says_none c.args.tokens.now (view c.args.self.now) c.if-is-empty.ensures
+pub returns-then-is_empty : goal.returns-then-is_empty
+returns-then-is_empty c = says_none c.args.tokens.now (view c.args.self.now) c.if-is_empty.ensures
 
-pub returns-in-default : goal.returns-in-default
-returns-in-default c = (refl, says_by c.args.tokens.now (view c.args.self.now) c.if-is-empty.ensures None (sym (ap items c.in-default.is) ∙ c.in-ok-numbers.ensures))
+pub returns-in_default : goal.returns-in_default
+returns-in_default c = (refl, says_by c.args.tokens.now (view c.args.self.now) c.if-is_empty.ensures None (sym (ap items c.in_default.is) ∙ c.in_ok-numbers.ensures))
 
 pub returns : goal.returns
 returns c =
-    let by = says_by c.args.tokens.now (view c.args.self.now) c.if-is-empty.ensures (Some (vec_items c.in-Some.numbers)) (sym (ap items c.in-Some.is) ∙ c.in-ok-numbers.ensures) in
+    let by = says_by c.args.tokens.now (view c.args.self.now) c.if-is_empty.ensures (Some (vec_items c.in-Some.numbers)) (sym (ap items c.in-Some.is) ∙ c.in_ok-numbers.ensures) in
     subst (Follows c.take.result c.args.at (view c.take.new.self)) (sym by) c.take.ensures

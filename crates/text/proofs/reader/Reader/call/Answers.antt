@@ -24,6 +24,6 @@ returns c =
     called_good c.args.k (view c.args.self.now) c.args.limit (omega (arith, length-map (vec_items c.args.self.now.blocks) kept_as, c.args.self.now.blocks.ok.0))
     (omega (arith, ap (λ x. x.size) b, c.args.self.now.names.ok.0))
     ∙ ap Some (state_same _ _ refl refl
-    (sym (c.in-ok-append-renamed.ensures ∙ (λ i. put c.args.limit (all_renamed (λ q. get_or (c.deref.ensures.value i) q 0)) (row_of c.args.self.now.row) (sym b i).row)))
+    (sym (c.in_ok-append_renamed.ensures ∙ (λ i. put c.args.limit (all_renamed (λ q. get_or (c.deref.ensures.value i) q 0)) (row_of c.args.self.now.row) (sym b i).row)))
     (sym c.clear.ensures.items) refl refl refl
     (sym (c.max-self.ensures ∙ ap (max c.args.self.now.wide) (c.span.ensures ∙ ap span c.deref-2.ensures.value))) refl)

@@ -1,4 +1,4 @@
-use Rattle.std.proofs.Common.{◌≡◌, true, false, not, ◌&&◌, eqb, ltb, length, is_some, vec_items, sym, ap, ◌∙◌, arith}
+use Rattle.std.proofs.Common.{◌≡◌, false, not, ◌&&◌, eqb, ltb, length, is_some, vec_items, sym, ap, ◌∙◌, arith}
 use Rattle.std.proofs.lemmas.List.{length-map}
 use Rattle.std.proofs.lemmas.Bool.{lt-ltb, le-ltb}
 use Rattle.text.specs.declared.reader.Reader.{Reader}
@@ -15,24 +15,24 @@ braced r = ap (λ n. eqb n 0) r.braces.ok.0 ∙ none_open (vec_items r.braces)
 known_are : (r : Reader) → r.blocks.len ≡ length (view r).blocks
 known_are r = r.blocks.ok.0 ∙ sym (length-map (vec_items r.blocks) kept_as)
 
-pub returns-then-not-is-empty : goal.returns-then-not-is-empty
-returns-then-not-is-empty c =
+pub returns-then-not-is_empty : goal.returns-then-not-is_empty
+returns-then-not-is_empty c =
     let r = c.args.self.now in
-    ap not c.if-not-is-empty.true
-    ∙ sym (ap (λ m. is_some (act 0 (view r) m)) c.in-Close.is ∙ closes_open 0 (view r) (view r).braces (sym (braced r) ∙ sym c.if-not-is-empty.ensures))
+    ap not c.if-not-is_empty.true
+    ∙ sym (ap (λ m. is_some (act 0 (view r) m)) c.in-Close.is ∙ closes_open 0 (view r) (view r).braces (sym (braced r) ∙ sym c.if-not-is_empty.ensures))
 
-pub returns-else-not-is-empty : goal.returns-else-not-is-empty
-returns-else-not-is-empty c =
+pub returns-else-not-is_empty : goal.returns-else-not-is_empty
+returns-else-not-is_empty c =
     let r = c.args.self.now in
-    c.is-some.ensures
-    ∙ sym (ap (λ m. is_some (act 0 (view r) m)) c.in-Close.is ∙ closes-none 0 (view r) (view r).braces (sym (braced r) ∙ sym c.if-not-is-empty.ensures))
+    c.is_some.ensures
+    ∙ sym (ap (λ m. is_some (act 0 (view r) m)) c.in-Close.is ∙ closes-none 0 (view r) (view r).braces (sym (braced r) ∙ sym c.if-not-is_empty.ensures))
 
 pub returns-then-k-len : goal.returns-then-k-len
 returns-then-k-len c =
     let r = c.args.self.now in
     let k = c.in-Call.k in
     let names : c.len-then-k-len.result ≡ length (view r).names = c.len-then-k-len.ensures ∙ r.names.ok.0 in
-    (λ i. eqb (names i) (c.size-of-then-k-len.ensures i))
+    (λ i. eqb (names i) (c.size_of-then-k-len.ensures i))
     ∙ sym (ap (λ m. is_some (act 0 (view r) m)) c.in-Call.is ∙ called-some 0 (view r) k ∙ ap (λ b. b && eqb (length (view r).names) (size_of (view r) k)) (lt-ltb k (length (view r).blocks) (omega (arith, known_are r))))
 
 pub returns-else-k-len : goal.returns-else-k-len

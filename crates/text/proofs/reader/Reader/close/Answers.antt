@@ -8,5 +8,5 @@ returns c =
     let top : map held (reverse (vec_items c.args.self.now.braces)) ≡ held c.in-Some.frame ∷ map held (reverse (vec_items c.pop.new.self)) = ap (λ fs. map held (reverse fs)) c.in-Some.ensures.items ∙ stacked c.pop.new.self.items c.in-Some.frame in
     ap (closes c.args.limit (view c.args.self.now)) top
     ∙ ap Some (state_same _ _ refl refl
-    (sym (c.in-ok-append.ensures ∙ (λ i. braced c.args.limit c.in-Some.frame.brace (row_of (c.replace-inner.ensures.after i)) (row_of (c.replace-inner.ensures.value i)))))
+    (sym (c.in_ok-append.ensures ∙ (λ i. braced c.args.limit c.in-Some.frame.brace (row_of (c.replace-inner.ensures.after i)) (row_of (c.replace-inner.ensures.value i)))))
     (sym c.clear.ensures.items) refl refl refl refl refl)

@@ -5,5 +5,5 @@ use Rattle.text.proofs.reader.Reader.is_between.Goals as goal
 
 pub returns-in-Start : goal.returns-in-Start
 returns-in-Start c =
-    c.is-empty.ensures ∙ ap (λ n. eqb n 0) c.args.self.now.braces.ok.0 ∙ none_open (vec_items c.args.self.now.braces)
+    c.is_empty.ensures ∙ ap (λ n. eqb n 0) c.args.self.now.braces.ok.0 ∙ none_open (vec_items c.args.self.now.braces)
     ∙ sym (ap (λ p. is_start p && no_braces (map held (reverse (vec_items c.args.self.now.braces)))) c.in-Start.is)

@@ -17,4 +17,4 @@ pub returns : goal.returns
 returns c =
     let b = block_at (vec_items c.args.self.now.blocks) c.args.k c.index.result.now (omega (arith, c.args.self.now.blocks.ok.0)) c.index.ensures in
     named_good c.args.k (view c.args.self.now) c.args.q (omega (arith, ap (λ x. x.size) b, c.args.self.now.names.ok.0)) (search rules)
-    ∙ ap Some (state_same _ _ refl refl refl (sym c.in-ok-push.ensures.items) refl refl refl refl refl)
+    ∙ ap Some (state_same _ _ refl refl refl (sym c.in_ok-push.ensures.items) refl refl refl refl refl)

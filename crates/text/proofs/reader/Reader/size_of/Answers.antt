@@ -1,4 +1,4 @@
-use Rattle.std.proofs.Common.{vec_items, sym, refl, ap, ◌∙◌, arith}
+use Rattle.std.proofs.Common.{vec_items, sym, ap, arith}
 use Rattle.std.proofs.lemmas.List.{length-map, get_or_past}
 use Rattle.text.specs.Reading.{view, kept_as, no_block}
 use Rattle.text.proofs.Steps.{block_at}

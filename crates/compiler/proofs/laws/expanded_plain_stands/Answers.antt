@@ -1,5 +1,0 @@
-use Rattle.compiler.proofs.Main.{expanded-plain}
-use Rattle.compiler.proofs.laws.expanded_plain_stands.Goals as goal
-
-pub returns : goal.returns
-returns c = expanded-plain

@@ -1,5 +1,0 @@
-use Rattle.compiler.proofs.Main.{expanded-same}
-use Rattle.compiler.proofs.laws.expanded_same_stands.Goals as goal
-
-pub returns : goal.returns
-returns c = expanded-same

@@ -1,5 +1,0 @@
-use Rattle.compiler.proofs.Toffoli.{fifteen-does}
-use Rattle.compiler.proofs.laws.fifteen_does_stands.Goals as goal
-
-pub returns : goal.returns
-returns c = fifteen-does

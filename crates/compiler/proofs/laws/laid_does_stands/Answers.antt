@@ -1,5 +1,0 @@
-use Rattle.compiler.proofs.Laid.{laid-does}
-use Rattle.compiler.proofs.laws.laid_does_stands.Goals as goal
-
-pub returns : goal.returns
-returns c = laid-does

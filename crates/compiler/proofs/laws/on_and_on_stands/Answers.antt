@@ -1,5 +1,0 @@
-use Rattle.compiler.proofs.Doings.{on-and-on}
-use Rattle.compiler.proofs.laws.on_and_on_stands.Goals as goal
-
-pub returns : goal.returns
-returns c = on-and-on

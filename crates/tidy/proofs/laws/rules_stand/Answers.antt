@@ -1,6 +1,0 @@
-use Rattle.tidy.proofs.Places.{changes}
-use Rattle.tidy.proofs.Twins.{twins_merge, idle_drops, reduces, backs_stand}
-use Rattle.tidy.proofs.laws.rules_stand.Goals as goal
-
-pub returns : goal.returns
-returns c = record { twins = twins_merge; idle = idle_drops; reduced = reduces; changes = changes; backs = backs_stand }
