@@ -26,7 +26,7 @@ use random::Random;
 use std::process::ExitCode;
 use std::time::Instant;
 
-const USAGE: &str = "usage: player [--seed N] [--cases N] [--bin DIR] [--no-state] [--replay FILE]";
+const USAGE: &str = "usage: player [--seed N] [--cases N] [--bin DIR] [--no-state] [--kinds KIND,..] [--replay FILE]";
 
 /// Where failing cases are kept.
 const KEPT: &str = "target/player";
@@ -38,6 +38,8 @@ struct Options {
     cases: usize,
     programs: String,
     with_state: bool,
+    /// The kinds of cases to run; all of them if none is named.
+    kinds: Vec<String>,
     replay: Option<String>,
 }
 
@@ -48,6 +50,7 @@ impl Options {
             cases: 4000,
             programs: "target/bin".to_owned(),
             with_state: true,
+            kinds: Vec::new(),
             replay: None,
         };
         while let Some(argument) = arguments.next() {
@@ -56,6 +59,9 @@ impl Options {
                 "--cases" => options.cases = arguments.next()?.parse().ok()?,
                 "--bin" => options.programs = arguments.next()?,
                 "--no-state" => options.with_state = false,
+                "--kinds" => {
+                    options.kinds = arguments.next()?.split(',').map(str::to_owned).collect();
+                }
                 "--replay" => options.replay = Some(arguments.next()?),
                 _ => return None,
             }
@@ -127,7 +133,11 @@ impl Runner {
 /// The cases that the options ask for.
 fn chosen(options: &Options) -> Result<Vec<(&'static str, Vec<Case>)>, String> {
     let Some(file) = &options.replay else {
-        return Ok(options.all_cases());
+        let mut kinds = options.all_cases();
+        if !options.kinds.is_empty() {
+            kinds.retain(|(name, _)| options.kinds.iter().any(|kind| kind == name));
+        }
+        return Ok(kinds);
     };
     let kept = std::fs::read(file).map_err(|error| format!("{file}: {error}"))?;
     let case = Case::from_kept(&kept).ok_or_else(|| format!("{file}: no case"))?;
