@@ -11,5 +11,4 @@ pub mod Begun
 pub mod Faults
 pub mod Answered
 pub mod Falls
-pub mod Saying
 pub mod Accepts

@@ -3,5 +3,4 @@ pub mod Program
 pub mod Cut
 pub mod Move
 pub mod Reading
-pub mod Saying
 pub mod Accept
