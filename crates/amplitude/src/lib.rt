@@ -1,7 +1,7 @@
 //! Amplitudes: whole numbers with an eighth root of one, w, where w^4 is -1.
 #![tactic(auto)]
 
-ghost use Rattle.std.specs.Prelude.{◌≡◌, ◌-◌, ◌^◌, ◌≤◌};
+ghost use Rattle.std.specs.Prelude.{◌≡◌, ◌-◌, ◌%◌, ◌^◌, ◌≤◌};
 ghost use Rattle.amplitude.specs.Laws.{RingLaws};
 ghost use Rattle.amplitude.specs.Ring.{Within, minus, plus, rooted, turned};
 
@@ -61,13 +61,26 @@ impl Amplitude {
         }
     }
 
-    /// Times w, so many times.
-    pub fn turned(self, eighths: u8) -> Amplitude
+    /// Times -1, which is w^4.
+    fn negated(self) -> Amplitude
         requires { Within (2 ^ 61) self }
-        ensures { result ≡ turned eighths self }
+        ensures { result ≡ turned 4 self }
+    {
+        Amplitude {
+            one: -self.one,
+            w: -self.w,
+            w2: -self.w2,
+            w3: -self.w3,
+        }
+    }
+
+    /// Times w, fewer than four times.
+    fn turned_less(self, eighths: u8) -> Amplitude
+        requires { Within (2 ^ 61) self }
+        ensures { result ≡ turned (eighths % 4) self }
     {
         let Amplitude { one, w, w2, w3 } = self;
-        match eighths % 8 {
+        match eighths % 4 {
             0 => self,
             1 => Amplitude {
                 one: -w3,
@@ -81,36 +94,25 @@ impl Amplitude {
                 w2: one,
                 w3: w,
             },
-            3 => Amplitude {
+            _ => Amplitude {
                 one: -w,
                 w: -w2,
                 w2: -w3,
                 w3: one,
             },
-            4 => Amplitude {
-                one: -one,
-                w: -w,
-                w2: -w2,
-                w3: -w3,
-            },
-            5 => Amplitude {
-                one: w3,
-                w: -one,
-                w2: -w,
-                w3: -w2,
-            },
-            6 => Amplitude {
-                one: w2,
-                w: w3,
-                w2: -one,
-                w3: -w,
-            },
-            _ => Amplitude {
-                one: w,
-                w: w2,
-                w2: w3,
-                w3: -one,
-            },
+        }
+    }
+
+    /// Times w, so many times.
+    pub fn turned(self, eighths: u8) -> Amplitude
+        requires { Within (2 ^ 61) self }
+        ensures { result ≡ turned eighths self }
+    {
+        let turned = self.turned_less(eighths);
+        if eighths % 8 < 4 {
+            turned
+        } else {
+            turned.negated()
         }
     }
 

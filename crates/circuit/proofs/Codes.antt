@@ -1,9 +1,12 @@
 -- Circuits in numbers and back, the first fault and the first misfit.
-use Rattle.std.proofs.Common.{◌≡◌, ℕ, ◌+◌, ◌*◌, ◌/◌, ◌<◌, ◌≤◌, Bool, true, false, cond, List, [], ◌∷◌, ◌++◌, length, get_or, take, drop, set, Some, None, Option, sym, refl, ap, ◌∙◌, ap₂, arith}
-use Rattle.std.proofs.lemmas.List.{append-nil, append_assoc, take_all, take_more_set, drop_all, drop_more}
+use Rattle.std.proofs.Common.{◌≡◌, ℕ, zero, suc, ◌+◌, ◌*◌, ◌/◌, ◌<◌, ◌≤◌, Bool, true, false, cond, not, List, [], ◌∷◌, ◌++◌, ◌==◌, length, get_or, take, drop, set, Some, None, Option, sym, refl, ap, ◌∙◌, ap₂, arith, rules, drop-drop}
+use Rattle.std.specs.List.{count_by, position_from}
+use Rattle.std.specs.Simd.{first_chunks}
+use Rattle.std.proofs.lemmas.List.Recursion.{is_count_by}
+use Rattle.std.proofs.lemmas.List.{get_or-drop, get_or-take, append-nil, append_assoc, take_all, take_more_set, drop_all, drop_more}
 use Rattle.std.proofs.lemmas.Bool.{true≢false}
 use Rattle.std.proofs.lemmas.Bool.Decides.{nat_tests}
-use Rattle.circuit.specs.Circuit.{Fit, AllFit, fits}
+use Rattle.circuit.specs.Circuit.{Fit, AllFit, fits, mixed, mixes}
 use Rattle.circuit.specs.Code.{code, codes, gate_of, gates_in, fault_of, first_of, fault_from}
 use Rattle.circuit.specs.Refusals.{misfit_from}
 use Rattle.circuit.specs.declared.gate.Gate.{Gate}
@@ -79,10 +82,52 @@ unfolding misfit_from
 misfit_from-fit n i [] f = refl
 misfit_from-fit n i (g ∷ gs) f = rw (fits_from_fit n g f.0) (misfit_from-fit n (i + 1) gs f.1)
 
-pub misfit_next : (n : ℕ) (gs : List Gate) (i : ℕ) → i < length gs → (t : Bool) → t ≡ fits n (get_or gs i (Phase 0 0))
-    → misfit_from n i (drop i gs) ≡ cond t (misfit_from n (i + 1) (drop (i + 1) gs)) (Some i)
+-- the first gate that misfits is the first that a test passes over
+pub misfit_position : (n i : ℕ) (gs : List Gate) → position_from (λ g. not (fits n g)) i gs ≡ misfit_from n i gs
 unfolding misfit_from
-misfit_next n gs i l t e = ap (misfit_from n i) (drop_more gs i (Phase 0 0) l) ∙ ap (λ (u : Bool). cond u (misfit_from n (i + 1) (drop (i + 1) gs)) (Some i)) (sym e)
+misfit_position n i [] = refl
+misfit_position n i (g ∷ gs) = go (fits n g) (misfit_position n (i + 1) gs)
+  where
+    go : (t : Bool) → position_from (λ h. not (fits n h)) (i + 1) gs ≡ misfit_from n (i + 1) gs
+        → cond (not t) (Some i) (position_from (λ h. not (fits n h)) (i + 1) gs) ≡ cond t (misfit_from n (i + 1) gs) (Some i)
+    go true e = e
+    go false e = refl
+
+-- Hadamards counted
+pub mixes_count : (gs : List Gate) → mixes gs ≡ count_by (λ (g : Gate). mixed g == 1) gs
+unfolding mixes
+mixes_count = is_count_by mixes (λ (g : Gate). mixed g == 1) refl more
+  where
+    more : (g : Gate) (gs : List Gate) → mixed g + mixes gs ≡ cond (mixed g == 1) (1 + mixes gs) (mixes gs)
+    more (Phase m q) gs = search rules
+    more (Hadamard q) gs = search rules
+    more (Not q) gs = search rules
+    more (ControlledNot c q) gs = search rules
+    more (Toffoli c d q) gs = search rules
+
+-- numbers by fours
+fours_at : (n : ℕ) (xs : List ℕ) (i : ℕ) (d : List ℕ) → i < n → get_or (first_chunks 4 n xs) i d ≡ take 4 (drop (4 * i) xs)
+fours_at zero xs i d l = absurd (omega arith)
+fours_at (suc n) xs zero d l = refl
+fours_at (suc n) xs (suc i) d l =
+    fours_at n (drop 4 xs) i d (omega arith) ∙ ap (take 4) (drop-drop (4 * i) 4 xs ∙ ap (λ (k : ℕ). drop k xs) (omega arith))
+
+module _ (xs : List ℕ) (fours : List (List ℕ)) (i : ℕ) (cut : fours ≡ first_chunks 4 (length xs / 4) xs) (l : i < length xs / 4) where
+  four_at : (j k : ℕ) → j < 4 → 4 * i + j ≡ k → get_or (get_or fours i []) j 0 ≡ get_or xs k 0
+  four_at j k h is =
+      ap (λ (ys : List (List ℕ)). get_or (get_or ys i []) j 0) cut
+      ∙ ap (λ (ys : List ℕ). get_or ys j 0) (fours_at (length xs / 4) xs i [] l)
+      ∙ get_or-take 4 (drop (4 * i) xs) j 0 h
+      ∙ get_or-drop (4 * i) xs j 0
+      ∙ ap (λ (m : ℕ). get_or xs m 0) is
+
+  pub four_gate : gate_of (get_or (get_or fours i []) 0 0) (get_or (get_or fours i []) 1 0) (get_or (get_or fours i []) 2 0) (get_or (get_or fours i []) 3 0)
+      ≡ gate_of (get_or xs (4 * i) 0) (get_or xs (4 * i + 1) 0) (get_or xs (4 * i + 2) 0) (get_or xs (4 * i + 3) 0)
+  four_gate = rw (four_at 0 (4 * i) (omega arith) (omega arith), four_at 1 (4 * i + 1) (omega arith) refl, four_at 2 (4 * i + 2) (omega arith) refl, four_at 3 (4 * i + 3) (omega arith) refl) refl
+
+  pub four_fault : fault_of (get_or (get_or fours i []) 0 0) (get_or (get_or fours i []) 1 0) (get_or (get_or fours i []) 2 0) (get_or (get_or fours i []) 3 0)
+      ≡ fault_of (get_or xs (4 * i) 0) 0 (get_or xs (4 * i + 2) 0) (get_or xs (4 * i + 3) 0)
+  four_fault = rw (four_at 0 (4 * i) (omega arith) (omega arith), four_at 2 (4 * i + 2) (omega arith) refl, four_at 3 (4 * i + 3) (omega arith) refl) refl
 
 -- four numbers, and what is left
 drop_four : (xs : List ℕ) (k : ℕ) → k + 4 ≤ length xs → drop k xs ≡ get_or xs k 0 ∷ (get_or xs (k + 1) 0 ∷ (get_or xs (k + 2) 0 ∷ (get_or xs (k + 3) 0 ∷ drop (k + 4) xs)))

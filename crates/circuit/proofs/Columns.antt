@@ -12,6 +12,7 @@ use Rattle.circuit.specs.Circuit.{Row, State, run, mixes, AllFit}
 use Rattle.circuit.specs.Rows.{number, state_of, basis}
 use Rattle.circuit.specs.Vector.{represented, Basis, Ready, Column}
 use Rattle.circuit.specs.declared.gate.Gate.{Gate}
+use Rattle.circuit.specs.declared.register.Register.{Register}
 use Rattle.circuit.specs.declared.vector.StateVector.{StateVector}
 
 module _ (n k : ℕ) (few : n ≤ 8) (inside : k < 2 ^ n) where
@@ -44,9 +45,9 @@ pub basis_ready_reversed : (n k : ℕ) (gs : List Gate) (s : StateVector) → Ba
 basis_ready_reversed n k gs s b fit short = basis-ready n k (reverse gs) s b (fit_reverse n gs fit) (omega (arith, mixes-reverse gs))
 
 -- gates run from a basis state
-pub column_of : (n k : ℕ) (gs : List Gate) (s t : StateVector) → Basis n k s → t.qubits ≡ s.qubits → ((b : Row) → represented t b ≡ run gs (represented s) b) → Column gs n k t
+pub column_of : (n k : ℕ) (gs : List Gate) (s t : StateVector) → Basis n k s → t.register ≡ s.register → ((b : Row) → represented t b ≡ run gs (represented s) b) → Column gs n k t
 column_of n k gs s t b kept done =
-    record { qubits_are = kept ∙ b.qubits_are; is = is; bounded = λ r. subst (Within (2 ^ mixes gs)) (sym (is r)) (run-bounded gs n k r) }
+    record { qubits_are = ap (λ (r : Register). r.qubits) kept ∙ b.qubits_are; is = is; bounded = λ r. subst (Within (2 ^ mixes gs)) (sym (is r)) (run-bounded gs n k r) }
   where
     is : (r : Row) → represented t r ≡ run gs (basis n k) r
     is r = done r ∙ ap (λ (u : State). run gs u r) (λ i c. b.is c i)

@@ -1,11 +1,12 @@
 -- A gate after another: what is left to run.
-use Rattle.std.proofs.Common.{◌≡◌, ℕ, ◌+◌, ◌-◌, ◌^◌, ◌<◌, ◌≤◌, List, [], ◌∷◌, reverse, length, get_or, take, sym, ap, ◌∙◌, subst, arith, pow_mono}
-use Rattle.std.proofs.lemmas.List.{reverse-append, take_more}
+use Rattle.std.proofs.Common.{◌≡◌, ℕ, ◌+◌, ◌-◌, ◌^◌, ◌≤◌, List, [], ◌∷◌, ◌++◌, reverse, sym, ap, ◌∙◌, subst, arith, pow_mono}
+use Rattle.std.proofs.lemmas.List.{reverse-append}
 use Rattle.amplitude.proofs.Bounds.{within_more}
 use Rattle.circuit.proofs.Growth.{bounded-does}
 use Rattle.circuit.specs.Circuit.{Row, State, does, run, mixed, mixes, AllFit}
 use Rattle.circuit.specs.Vector.{represented, Bounded, Ready}
 use Rattle.circuit.specs.declared.gate.Gate.{Gate}
+use Rattle.circuit.specs.declared.register.Register.{Register}
 use Rattle.circuit.specs.declared.vector.StateVector.{StateVector}
 
 pub ready_small : (gs : List Gate) (s : StateVector) → Ready gs s → Bounded (2 ^ 61) (represented s)
@@ -21,7 +22,7 @@ room-left : (g : Gate) (gs : List Gate) → mixes (g ∷ gs) ≤ 61 → (mixes g
 unfolding mixes
 room-left g gs h = (omega arith, omega arith)
 
-module _ (wanted : State) (g : Gate) (gs : List Gate) (s t : StateVector) (left : Left wanted (g ∷ gs) s) (same : t.qubits ≡ s.qubits) (done : (b : Row) → represented t b ≡ does g (represented s) b) where
+module _ (wanted : State) (g : Gate) (gs : List Gate) (s t : StateVector) (left : Left wanted (g ∷ gs) s) (same : t.register ≡ s.register) (done : (b : Row) → represented t b ≡ does g (represented s) b) where
   became : represented t ≡ does g (represented s)
   became = λ i b. done b i
 
@@ -30,7 +31,7 @@ module _ (wanted : State) (g : Gate) (gs : List Gate) (s t : StateVector) (left 
   left-next =
       record {
         ready = record {
-          fit = subst (λ (n : ℕ). AllFit n gs) (sym same) left.ready.fit.1;
+          fit = subst (λ (r : Register). AllFit r.qubits gs) (sym same) left.ready.fit.1;
           short = (room-left g gs left.ready.short).0;
           room = subst (λ (m : ℕ). Bounded (2 ^ m) (represented t)) (room-left g gs left.ready.short).1
               (subst (Bounded (2 ^ (mixed g + (61 - mixes (g ∷ gs))))) (sym became) (bounded-does g (61 - mixes (g ∷ gs)) (represented s) left.ready.room));
@@ -42,8 +43,6 @@ pub left-none : (wanted : State) (s : StateVector) → Left wanted [] s → repr
 unfolding run
 left-none wanted s left = left.gives
 
--- the last of the first i comes first backwards
-pub take_back : {A : Type 0} (xs : List A) (i : ℕ) (d : A) → 0 < i → i ≤ length xs → reverse (take i xs) ≡ get_or xs (i - 1) d ∷ reverse (take (i - 1) xs)
-take_back xs i d p l =
-    let e : i ≡ i - 1 + 1 = omega arith in
-    ap (λ (k : ℕ). reverse (take k xs)) e ∙ ap reverse (take_more xs (i - 1) d (omega arith)) ∙ reverse-append (take (i - 1) xs) (get_or xs (i - 1) d ∷ [])
+-- backwards, the last gate is the next one
+pub left-last : (wanted : State) (s : StateVector) (xs ys : List Gate) (g : Gate) → xs ≡ ys ++ (g ∷ []) → Left wanted (reverse xs) s → Left wanted (g ∷ reverse ys) s
+left-last wanted s xs ys g last left = subst (λ (gs : List Gate). Left wanted gs s) (ap reverse last ∙ reverse-append ys (g ∷ [])) left

@@ -1,7 +1,8 @@
 -- The numbers of refusals, and how the first that applies is found.
-use Rattle.std.specs.Prelude.{ℕ, ◌+◌, Bool, true, false, cond, List, [], ◌∷◌, Some, None, Option}
+use Rattle.std.specs.Prelude.{◌≡◌, ℕ, ◌+◌, Bool, true, false, cond, ◌&&◌, List, [], ◌∷◌, Some, None, Option, Ok, Err, Result, IfOk, nat_le}
 use Rattle.circuit.specs.declared.gate.Gate.{Gate}
 use Rattle.circuit.specs.declared.refusal.Refusal.{Refusal}
+use Rattle.circuit.specs.declared.register.Register.{Register}
 use Rattle.circuit.specs.declared.refusal.Refusal.TheVariants.{Qubits, Length, Number, Layout, Device, Room, Mixes, Text}
 use Rattle.circuit.specs.declared.refusal.Refusal.TheVariants as refusal
 use Rattle.circuit.specs.Circuit.{fits}
@@ -37,6 +38,15 @@ or_else None rest = rest
 abbrev pub unless : Bool → Refusal → Option Refusal
 unless true f = None
 unless false f = Some f
+
+-- an answer that is an error exactly where there is a refusal, and then that one
+abbrev pub Checked : {T : Type 0} → Option Refusal → Result T Refusal → Type 0
+Checked o (Ok _) = o ≡ None
+Checked o (Err f) = o ≡ Some f
+
+-- the register of n qubits, refused where there is none or are more than eight
+abbrev pub IsRegister : ℕ → Result Register Refusal → Type 0
+IsRegister n r = Checked (unless (nat_le 1 n && nat_le n 8) (Qubits 0)) r × IfOk r (λ register. register.qubits ≡ n)
 
 -- a refusal at a place, if there is one
 abbrev pub at_place : (ℕ → Refusal) → Option ℕ → Option Refusal

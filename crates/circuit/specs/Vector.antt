@@ -9,7 +9,7 @@ use Rattle.circuit.specs.Circuit.{Row, State, run, mixes, AllFit}
 use Rattle.circuit.specs.Rows.{state_of, basis}
 
 abbrev pub represented : StateVector → State
-represented s = state_of s.qubits s.amplitudes
+represented s = state_of s.register.qubits s.amplitudes
 
 -- what a gate makes of the amplitudes at a row whose target is 0 and at the same row with target 1
 abbrev pub paired : Gate → Row → Amplitude → Amplitude → Amplitude × Amplitude
@@ -25,17 +25,17 @@ Bounded m s = (b : Row) → Within m (s b)
 
 -- all the gates can be run: each Hadamard has room to double the amplitudes
 pub record Ready (gs : List Gate) (s : StateVector) : Type 0 where
-  pub fit : AllFit s.qubits gs
+  pub fit : AllFit s.register.qubits gs
   pub short : mixes gs ≤ 61
   pub room : Bounded (2 ^ (61 - mixes gs)) (represented s)
 
 -- a vector of n qubits that is 1 at the row with the number k, and 0 at the others
 pub record Basis (n k : ℕ) (s : StateVector) : Type 0 where
-  pub qubits_are : s.qubits ≡ n
+  pub qubits_are : s.register.qubits ≡ n
   pub is : (b : Row) → represented s b ≡ basis n k b
 
 -- what the gates make of that basis state
 pub record Column (gs : List Gate) (n k : ℕ) (s : StateVector) : Type 0 where
-  pub qubits_are : s.qubits ≡ n
+  pub qubits_are : s.register.qubits ≡ n
   pub is : (b : Row) → represented s b ≡ run gs (basis n k) b
   pub bounded : Bounded (2 ^ mixes gs) (represented s)

@@ -1,17 +1,16 @@
 //! Circuits in numbers, four a gate.
-ghost use Rattle.std.specs.Prelude.{◌≡◌, ◌*◌, ◌≤◌, ◌++◌, length, drop};
+ghost use Rattle.std.specs.Prelude.{◌≡◌, ◌*◌, ◌≤◌, ◌++◌, length, drop, slice_index};
 ghost use Rattle.circuit.specs.Circuit.{mixes};
 ghost use Rattle.circuit.specs.Code.{code, fault_from, fault_of, gate_of, gates_in};
 ghost use Rattle.circuit.specs.Refusals.{misfit_from};
 
 use crate::gate::Gate;
 
-impl Gate {
-    /// Its four numbers.
-    pub fn code(self) -> [u8; 4]
-        ensures { result ≡ code self }
-    {
-        match self {
+impl From<Gate> for [u8; 4] {
+    ghost from_gives = { λ gate numbers. numbers ≡ code gate };
+
+    fn from(gate: Gate) -> [u8; 4] {
+        match gate {
             Gate::Phase { eighths, qubit } => [0, eighths, qubit, 0],
             Gate::Hadamard(qubit) => [1, qubit, 0, 0],
             Gate::Not(qubit) => [2, qubit, 0, 0],
@@ -25,47 +24,41 @@ impl Gate {
     }
 }
 
-/// The gate that four numbers are.
-pub fn gate_of(kind: u8, a: u8, b: u8, c: u8) -> Gate
-    ensures { result ≡ gate_of kind a b c }
-{
-    match kind {
-        0 => Gate::Phase {
-            eighths: a,
-            qubit: b,
-        },
-        1 => Gate::Hadamard(a),
-        2 => Gate::Not(a),
-        3 => Gate::ControlledNot {
-            control: a,
-            target: b,
-        },
-        _ => Gate::Toffoli {
-            first: a,
-            second: b,
-            target: c,
-        },
+impl From<[u8; 4]> for Gate {
+    ghost from_gives = { λ numbers gate. gate ≡ gate_of (slice_index numbers 0) (slice_index numbers 1) (slice_index numbers 2) (slice_index numbers 3) };
+
+    /// The gate that four numbers are: of any kind above three a Toffoli.
+    fn from(numbers: [u8; 4]) -> Gate {
+        let [kind, a, b, c] = numbers;
+        match kind {
+            0 => Gate::Phase {
+                eighths: a,
+                qubit: b,
+            },
+            1 => Gate::Hadamard(a),
+            2 => Gate::Not(a),
+            3 => Gate::ControlledNot {
+                control: a,
+                target: b,
+            },
+            _ => Gate::Toffoli {
+                first: a,
+                second: b,
+                target: c,
+            },
+        }
     }
 }
 
 /// The place among a gate's four numbers of the first that is no kind, or is left over and not 0. The second is never either.
-fn fault_of(kind: u8, b: u8, c: u8) -> Option<usize>
-    ensures { result ≡ fault_of kind 0 b c }
+fn fault_of(numbers: [u8; 4]) -> Option<usize>
+    ensures { result ≡ fault_of (slice_index numbers 0) (slice_index numbers 1) (slice_index numbers 2) (slice_index numbers 3) }
 {
-    if kind > 4 {
-        return Some(0);
-    }
-    let arity = match kind {
-        0 | 3 => 2,
-        4 => 3,
-        _ => 1,
-    };
-    if arity < 2 && b > 0 {
-        Some(2)
-    } else if arity < 3 && c > 0 {
-        Some(3)
-    } else {
-        None
+    match numbers {
+        [5..=255, ..] => Some(0),
+        [1 | 2, _, 1..=255, _] => Some(2),
+        [0..=3, _, _, 1..=255] => Some(3),
+        _ => None,
     }
 }
 
@@ -73,10 +66,10 @@ fn fault_of(kind: u8, b: u8, c: u8) -> Option<usize>
 pub fn first_fault(numbers: &[u8]) -> Option<usize>
     ensures { result ≡ fault_from 0 numbers.now }
 {
-    for i in 0..numbers.len() / 4 {
-        let at = 4 * i;
-        if let Some(place) = fault_of(numbers[at], numbers[at + 2], numbers[at + 3]) {
-            return Some(at + place);
+    let (fours, _rest) = numbers.as_chunks::<4>();
+    for (gate, four) in fours.iter().enumerate() {
+        if let Some(place) = fault_of(*four) {
+            return Some(4 * gate + place);
         }
     }
     None
@@ -86,23 +79,17 @@ pub fn first_fault(numbers: &[u8]) -> Option<usize>
 pub fn first_misfit(qubits: u64, gates: &[Gate]) -> Option<usize>
     ensures { result ≡ misfit_from qubits 0 gates.now }
 {
-    for i in 0..gates.len() {
-        if !gates[i].fits(qubits) {
-            return Some(i);
-        }
-    }
-    None
+    gates.iter().position(|gate| !gate.fits(qubits))
 }
 
 /// How many Hadamards there are.
 pub fn count_mixes(gates: &[Gate]) -> u64
     ensures { result ≡ mixes gates.now }
 {
-    let mut count = 0;
-    for gate in gates {
-        count += u64::from(gate.mixed());
-    }
-    count
+    gates
+        .iter()
+        .filter(|gate| matches!(gate, Gate::Hadamard(_)))
+        .count() as u64
 }
 
 /// Writes the gates that the numbers are.
@@ -110,14 +97,9 @@ pub fn decode(numbers: &[u8], gates: &mut [Gate])
     requires { 4 * length gates.old ≡ length numbers.now }
     ensures { gates.new ≡ gates_in numbers.now }
 {
-    for i in 0..gates.len() {
-        let at = 4 * i;
-        gates[i] = gate_of(
-            numbers[at],
-            numbers[at + 1],
-            numbers[at + 2],
-            numbers[at + 3],
-        );
+    let (fours, _rest) = numbers.as_chunks::<4>();
+    for (i, four) in fours.iter().enumerate() {
+        gates[i] = Gate::from(*four);
     }
 }
 
@@ -126,5 +108,5 @@ pub fn write(room: &mut [u8], gate: Gate)
     requires { 4 ≤ length room.old }
     ensures { room.new ≡ code gate ++ drop 4 room.old }
 {
-    room[..4].copy_from_slice(&gate.code());
+    room[..4].copy_from_slice(&<[u8; 4]>::from(gate));
 }

@@ -6,7 +6,7 @@ ghost use Rattle.circuit.specs.Rows.{row};
 ghost use Rattle.circuit.specs.Vector.{Basis, Bounded, Column, Ready, paired, represented};
 
 use crate::gate::Gate;
-use crate::row::{has, rows, weight};
+use crate::register::Register;
 use crate::vector::StateVector;
 use amplitude::Amplitude;
 
@@ -14,30 +14,29 @@ impl Gate {
     /// What it makes of the amplitudes at a row whose target is 0 and at the same row with target 1.
     fn pair(
         self,
-        qubits: u8,
+        register: Register,
         number: usize,
         zero: Amplitude,
         one: Amplitude,
     ) -> (Amplitude, Amplitude)
-        requires few { qubits ≤ 8 }
-        requires fit { Fit qubits self }
+        requires fit { Fit register.qubits self }
         requires zero_small { Within (2 ^ 61) zero }
         requires one_small { Within (2 ^ 61) one }
-        ensures { result ≡ paired self (row qubits number) zero one }
+        ensures { result ≡ paired self (row register.qubits number) zero one }
     {
         match self {
             Gate::Phase { eighths, .. } => (zero, one.turned(eighths)),
             Gate::Hadamard(_) => (zero.plus(one), zero.minus(one)),
             Gate::Not(_) => (one, zero),
             Gate::ControlledNot { control, .. } => {
-                if has(qubits, number, control) {
+                if register.has(number, control) {
                     (one, zero)
                 } else {
                     (zero, one)
                 }
             }
             Gate::Toffoli { first, second, .. } => {
-                if has(qubits, number, first) && has(qubits, number, second) {
+                if register.has(number, first) && register.has(number, second) {
                     (one, zero)
                 } else {
                     (zero, one)
@@ -49,30 +48,33 @@ impl Gate {
 
 impl StateVector {
     /// The state that is 1 at the row with the number, and 0 at the others.
-    pub fn basis(qubits: u8, number: usize) -> StateVector
-        requires few { qubits ≤ 8 }
-        requires inside { number < 2 ^ qubits }
-        ensures { Basis qubits number result }
+    pub fn basis(register: Register, number: usize) -> StateVector
+        requires { number < 2 ^ register.qubits }
+        ensures { Basis register.qubits number result }
     {
         let mut amplitudes = [Amplitude::ZERO; 256];
         amplitudes[number] = Amplitude::ONE;
-        StateVector { qubits, amplitudes }
+        StateVector {
+            register,
+            amplitudes,
+        }
     }
 
     /// Applies the gate: the state afterwards is what the gate does to the state before.
     pub fn apply(&mut self, gate: Gate)
-        requires fit { Fit self.old.qubits gate }
+        requires fit { Fit self.old.register.qubits gate }
         requires small { Bounded (2 ^ 61) (represented self.old) }
-        ensures kept { self.new.qubits ≡ self.old.qubits }
+        ensures kept { self.new.register ≡ self.old.register }
         ensures done { (b : Row) → represented self.new b ≡ does gate (represented self.old) b }
     {
-        let qubits = self.qubits;
+        let register = self.register;
         let target = gate.target();
-        let bit = weight(qubits, target);
-        for row in 0..rows(qubits) {
-            if !has(qubits, row, target) {
+        let bit = register.weight(target);
+        // A row is its number, and its partner stands `bit` further on.
+        for row in 0..register.rows() {
+            if !register.has(row, target) {
                 let (zero, one) = gate.pair(
-                    qubits,
+                    register,
                     row,
                     self.amplitudes[row],
                     self.amplitudes[row + bit],
@@ -86,48 +88,46 @@ impl StateVector {
     /// Runs the gates in turn: the state afterwards is what they do to the state before.
     pub fn run(&mut self, gates: &[Gate])
         requires { Ready gates.now self.old }
-        ensures kept { self.new.qubits ≡ self.old.qubits }
+        ensures kept { self.new.register ≡ self.old.register }
         ensures done { (b : Row) → represented self.new b ≡ run gates.now (represented self.old) b }
     {
-        for gate in gates {
-            self.apply(*gate);
+        for &gate in gates {
+            self.apply(gate);
         }
     }
 
-    /// Runs the gates from the last to the first.
+    /// Runs the gates from the last to the first. One function over iterators would be no plainer: its contract would have to speak of the list that an iterator yields.
     pub fn run_reversed(&mut self, gates: &[Gate])
         requires { Ready (reverse gates.now) self.old }
-        ensures kept { self.new.qubits ≡ self.old.qubits }
+        ensures kept { self.new.register ≡ self.old.register }
         ensures done { (b : Row) → represented self.new b ≡ run (reverse gates.now) (represented self.old) b }
     {
-        for i in (0..gates.len()).rev() {
-            self.apply(gates[i]);
+        for gate in gates.iter().rev() {
+            self.apply(*gate);
         }
     }
 }
 
 /// What the gates make of the state that is 1 at the row with the number: a column of the circuit's matrix.
-pub fn column(gates: &[Gate], qubits: u8, number: usize) -> StateVector
-    requires few { qubits ≤ 8 }
-    requires inside { number < 2 ^ qubits }
-    requires fit { AllFit qubits gates.now }
+pub fn column(gates: &[Gate], register: Register, number: usize) -> StateVector
+    requires inside { number < 2 ^ register.qubits }
+    requires fit { AllFit register.qubits gates.now }
     requires short { mixes gates.now ≤ 60 }
-    ensures { Column gates.now qubits number result }
+    ensures { Column gates.now register.qubits number result }
 {
-    let mut state = StateVector::basis(qubits, number);
+    let mut state = StateVector::basis(register, number);
     state.run(gates);
     state
 }
 
 /// The same for the gates from the last to the first.
-pub fn column_reversed(gates: &[Gate], qubits: u8, number: usize) -> StateVector
-    requires few { qubits ≤ 8 }
-    requires inside { number < 2 ^ qubits }
-    requires fit { AllFit qubits gates.now }
+pub fn column_reversed(gates: &[Gate], register: Register, number: usize) -> StateVector
+    requires inside { number < 2 ^ register.qubits }
+    requires fit { AllFit register.qubits gates.now }
     requires short { mixes gates.now ≤ 60 }
-    ensures { Column (reverse gates.now) qubits number result }
+    ensures { Column (reverse gates.now) register.qubits number result }
 {
-    let mut state = StateVector::basis(qubits, number);
+    let mut state = StateVector::basis(register, number);
     state.run_reversed(gates);
     state
 }

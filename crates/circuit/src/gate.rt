@@ -18,11 +18,11 @@ impl Gate {
         ensures { result ≡ target self }
     {
         match self {
-            Gate::Phase { qubit, .. } => qubit,
-            Gate::Hadamard(qubit) => qubit,
-            Gate::Not(qubit) => qubit,
-            Gate::ControlledNot { target, .. } => target,
-            Gate::Toffoli { target, .. } => target,
+            Gate::Phase { qubit: target, .. }
+            | Gate::Hadamard(target)
+            | Gate::Not(target)
+            | Gate::ControlledNot { target, .. }
+            | Gate::Toffoli { target, .. } => target,
         }
     }
 
@@ -30,31 +30,27 @@ impl Gate {
     pub fn mixed(self) -> u8
         ensures { result ≡ mixed self }
     {
-        match self {
-            Gate::Hadamard(_) => 1,
-            _ => 0,
-        }
+        u8::from(matches!(self, Gate::Hadamard(_)))
     }
 
     /// Whether it is about different qubits, all below a number.
     pub fn fits(self, qubits: u64) -> bool
         ensures { result ≡ fits qubits self }
     {
+        let there = |qubit: u8| u64::from(qubit) < qubits;
         match self {
-            Gate::Phase { qubit, .. } => u64::from(qubit) < qubits,
-            Gate::Hadamard(qubit) => u64::from(qubit) < qubits,
-            Gate::Not(qubit) => u64::from(qubit) < qubits,
+            Gate::Phase { qubit, .. } | Gate::Hadamard(qubit) | Gate::Not(qubit) => there(qubit),
             Gate::ControlledNot { control, target } => {
-                u64::from(control) < qubits && u64::from(target) < qubits && control != target
+                there(control) && there(target) && control != target
             }
             Gate::Toffoli {
                 first,
                 second,
                 target,
             } => {
-                u64::from(first) < qubits
-                    && u64::from(second) < qubits
-                    && u64::from(target) < qubits
+                there(first)
+                    && there(second)
+                    && there(target)
                     && first != second
                     && first != target
                     && second != target

@@ -3,14 +3,17 @@
 
 mod code;
 mod evolve;
+mod failure;
 mod gate;
 mod refusal;
+mod register;
 mod row;
 mod vector;
 
-pub use code::{count_mixes, decode, first_fault, first_misfit, gate_of, write};
+pub use code::{count_mixes, decode, first_fault, first_misfit, write};
 pub use evolve::{column, column_reversed};
+pub use failure::Failure;
 pub use gate::Gate;
 pub use refusal::Refusal;
-pub use row::{has, rows};
+pub use register::Register;
 pub use vector::StateVector;

@@ -48,15 +48,15 @@ impl Refusal {
         ensures { result ≡ place self }
     {
         match self {
-            Refusal::Qubits(place) => place,
-            Refusal::Length(place) => place,
-            Refusal::Number(place) => place,
-            Refusal::Gate(place) => place,
-            Refusal::Layout(place) => place,
-            Refusal::Device(place) => place,
-            Refusal::Room(place) => place,
-            Refusal::Mixes(place) => place,
-            Refusal::Text(place) => place,
+            Refusal::Qubits(place)
+            | Refusal::Length(place)
+            | Refusal::Number(place)
+            | Refusal::Gate(place)
+            | Refusal::Layout(place)
+            | Refusal::Device(place)
+            | Refusal::Room(place)
+            | Refusal::Mixes(place)
+            | Refusal::Text(place) => place,
         }
     }
 }

@@ -1,13 +1,13 @@
 //! State vectors.
-ghost use Rattle.std.specs.Prelude.{◌≡◌, ◌≤◌, length};
+ghost use Rattle.std.specs.Prelude.{◌≡◌, length};
 
+use crate::register::Register;
 use amplitude::Amplitude;
 
-/// The amplitudes of up to eight qubits: that of a row stands at the row's number.
+/// The amplitudes of a register: that of a row stands at the row's number.
 #[derive(Clone, Copy)]
 pub struct StateVector {
-    pub qubits: u8,
+    pub register: Register,
     pub amplitudes: [Amplitude; 256],
-    ghost few: { qubits ≤ 8 },
     ghost whole: { length amplitudes ≡ 256 },
 }

@@ -2,10 +2,10 @@
 #![tactic(auto)]
 
 use circuit::Refusal;
-use message::{JobError, Reason, compile_job, position_of, show_place, text_of};
-use std::io::Read;
+use console::{NoAnswer, exit_code, fail, point, read_input};
+use message::{JobError, Reason, compile_job, text_of};
+use std::env;
 use std::process::ExitCode;
-use std::{env, fs, io};
 
 const VERSION: &str = "compile 0.1, proved with rattle-kit-13f logic dac8208d650f15bf";
 
@@ -28,33 +28,13 @@ refusal goes to standard error with its number and place, and the status is 1.
     --help      print this page
     --version   print the version and what it is proved with";
 
-/// There is no answer; standard error says why.
-#[derive(Drop)]
-struct NoAnswer;
-
-impl From<io::Error> for NoAnswer {
-    fn from(_e: io::Error) -> NoAnswer {
-        NoAnswer
-    }
-}
-
-/// Says at which sign a text is refused, and shows it.
-fn point(rt: &HostRuntime, name: &str, text: &[u8], sign: u64) -> Result<(), NoAnswer> {
-    let at = position_of(text, sign);
-    let line = at.line;
-    let column = at.column;
-    let reason = Reason(Refusal::Text(sign));
-    eprintln!(rt; "{name}:{line}:{column}: {reason}")?;
-    if let Ok(shown) = show_place(rt.alloc(), text, at) {
-        eprint!(rt; "{shown}")?;
-    }
-    Ok(())
-}
+/// What the program is called where it speaks of itself.
+const PROGRAM: &str = "compile";
 
 /// Says why nothing comes of a job.
 fn complain(rt: &HostRuntime, name: &str, job: &[u8], error: JobError) -> Result<(), NoAnswer> {
     match error {
-        JobError::Refused(Refusal::Text(sign)) => return point(rt, name, text_of(job), sign),
+        JobError::Refused(Refusal::Text(sign)) => point(rt, name, text_of(job), sign)?,
         JobError::Refused(refusal) => eprintln!(rt; "{name}: {}", Reason(refusal))?,
         JobError::Memory => eprintln!(rt; "{name}: out of memory")?,
         JobError::Line(line) => eprintln!(rt;
@@ -63,42 +43,13 @@ fn complain(rt: &HostRuntime, name: &str, job: &[u8], error: JobError) -> Result
         JobError::NoDevice => eprintln!(rt; "{name}: no line gives a device")?,
         JobError::NoLayout => eprintln!(rt; "{name}: no line gives a layout")?,
     }
-    Ok(())
-}
-
-fn from_file(rt: &HostRuntime, name: &str) -> Result<Vec<u8>, NoAnswer> {
-    match fs::read(rt, name) {
-        Ok(bytes) => Ok(bytes),
-        Err(error) => {
-            eprintln!(rt; "compile: {name}: {error}")?;
-            Err(NoAnswer)
-        }
-    }
-}
-
-fn from_input(rt: &HostRuntime) -> Result<Vec<u8>, NoAnswer> {
-    let mut bytes = Vec::new(rt.alloc());
-    rt.stdin().read_to_end(&mut bytes)?;
-    Ok(bytes)
+    Err(NoAnswer)
 }
 
 fn run(rt: &HostRuntime, plain: bool, name: &str, job: &[u8]) -> Result<(), NoAnswer> {
     match compile_job(rt.alloc(), job, plain) {
-        Ok(text) => {
-            print!(rt; "{text}")?;
-            Ok(())
-        }
-        Err(error) => {
-            complain(rt, name, job, error)?;
-            Err(NoAnswer)
-        }
-    }
-}
-
-fn is(word: &Option<String>, what: &str) -> bool {
-    match word {
-        Some(word) => word.as_str() == what,
-        None => false,
+        Ok(text) => Ok(print!(rt; "{text}")?),
+        Err(error) => complain(rt, name, job, error),
     }
 }
 
@@ -110,44 +61,29 @@ fn compile(
     more: Option<String>,
 ) -> Result<(), NoAnswer> {
     if more.is_some() {
-        eprintln!(rt; "compile: one file at most; --help tells more")?;
-        return Err(NoAnswer);
+        return fail(rt, PROGRAM, "one file at most");
     }
-    let Some(name) = name else {
-        return run(rt, plain, "compile", &from_input(rt)?);
-    };
-    if name.as_str() == "-" {
-        return run(rt, plain, "compile", &from_input(rt)?);
+    match name.as_deref() {
+        None | Some("-") => run(rt, plain, PROGRAM, &read_input(rt, PROGRAM, "-")?),
+        Some(name) if name.starts_with("--") => {
+            fail(rt, PROGRAM, format_args!("no option {name}"))
+        }
+        Some(name) => run(rt, plain, name, &read_input(rt, PROGRAM, name)?),
     }
-    if name.starts_with("--") {
-        eprintln!(rt; "compile: no option {name}; --help tells more")?;
-        return Err(NoAnswer);
-    }
-    run(rt, plain, &name, &from_file(rt, &name)?)
 }
 
 /// Does what the arguments ask for.
 fn answer(rt: &HostRuntime) -> Result<(), NoAnswer> {
-    let mut args = env::args(rt)?;
-    let _program = args.next();
+    let mut args = env::args(rt)?.skip(1);
     let first = args.next();
-    if is(&first, "--help") {
-        println!(rt; "{HELP}")?;
-        return Ok(());
+    match first.as_deref() {
+        Some("--help") => Ok(println!(rt; "{HELP}")?),
+        Some("--version") => Ok(println!(rt; "{VERSION}")?),
+        Some("--plain") => compile(rt, true, args.next(), args.next()),
+        _ => compile(rt, false, first, args.next()),
     }
-    if is(&first, "--version") {
-        println!(rt; "{VERSION}")?;
-        return Ok(());
-    }
-    if is(&first, "--plain") {
-        return compile(rt, true, args.next(), args.next());
-    }
-    compile(rt, false, first, args.next())
 }
 
 fn main(rt: HostRuntime) -> ExitCode {
-    match answer(&rt) {
-        Ok(()) => ExitCode::SUCCESS,
-        Err(NoAnswer) => ExitCode::FAILURE,
-    }
+    exit_code(answer(&rt))
 }

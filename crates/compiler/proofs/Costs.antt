@@ -3,9 +3,17 @@ use Rattle.std.proofs.Common.{◌≡◌, ℕ, zero, suc, ◌+◌, ◌<◌, ◌�
 use Rattle.std.proofs.lemmas.List.{take_more}
 use Rattle.circuit.specs.Circuit.{Fit, AllFit}
 use Rattle.circuit.specs.declared.gate.Gate.{Gate}
+use Rattle.circuit.specs.declared.gate.Gate.TheVariants.{Phase, Hadamard, Not, ControlledNot, Toffoli}
 use Rattle.compiler.specs.Emits.{cost, costs}
 use Rattle.compiler.specs.Route.{Plain, AllPlain}
 use Rattle.compiler.proofs.Expansions.{costs-append}
+
+pub four-cost : (g : Gate) → 4 ≤ cost g
+four-cost (Phase m q) = omega arith
+four-cost (Hadamard q) = omega arith
+four-cost (Not q) = omega arith
+four-cost (ControlledNot c q) = omega arith
+four-cost (Toffoli a b c) = omega arith
 
 pub costs_front : (gs : List Gate) (i : ℕ) → costs (take i gs) ≤ costs gs
 costs_front gs zero = omega arith

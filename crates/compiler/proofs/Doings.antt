@@ -14,7 +14,7 @@ use Rattle.laws.proofs.Rename.{mixed-renamed}
 use Rattle.laws.specs.Rename.{renamed, other}
 use Rattle.compiler.specs.Route.{swapped, swap_gates, Exactly, Plain, Doing, Routed, OnAndOn}
 use Rattle.compiler.proofs.Laid.{laid-does, laid_like}
-use Rattle.compiler.proofs.Swap.{swap_lays, swap_placed}
+use Rattle.compiler.proofs.Swapping.{swap_lays, swap_placed}
 
 can-append : (d : Graph) (ds es : List Gate) → AllCan d ds → AllCan d es → AllCan d (ds ++ es)
 can-append d [] es u v = v
@@ -45,10 +45,10 @@ pub nothing-done : (n : ℕ) (d : Graph) (p : ℕ → ℕ) → Placed n d p → 
 unfolding Exactly run
 nothing-done n d p l = record { can = tt; placed = l; exact = λ s b. refl; turns = refl; roots = refl }
 
-pub swap_done : (n : ℕ) (d : Graph) (p : ℕ → ℕ) (x y : ℕ) → Connected d → x < d.size → y < d.size → (x ≡ y → ⊥) → d.joined x y ≡ true → Placed n d p → Doing n d p (swapped x y p) [] (swap_gates x y)
+pub swap_done : (n : ℕ) (d : Graph) (p : ℕ → ℕ) (x y : ℕ) → x < d.size → y < d.size → (x ≡ y → ⊥) → d.joined x y ≡ true → d.joined y x ≡ d.joined x y → Placed n d p → Doing n d p (swapped x y p) [] (swap_gates x y)
 unfolding swap_gates t_count mixes
-swap_done n d p x y cd hx hy ne j l = record {
-  can = ((hx, hy, ne, j), ((hy, hx, (λ e. ne (sym e)), cd.even y x hy hx ∙ j), ((hx, hy, ne, j), tt)));
+swap_done n d p x y hx hy ne j even l = record {
+  can = ((hx, hy, ne, j), ((hy, hx, (λ e. ne (sym e)), even ∙ j), ((hx, hy, ne, j), tt)));
   placed = swap_placed n d p x y hx hy l;
   exact = swap_lays n d p x y hx hy ne;
   turns = refl;
@@ -72,6 +72,18 @@ gate-done n d p g l f k = record {
   turns = ap (λ k. k + 0) (worth-renamed p g);
   roots = ap (λ k. k + 0) (mixed-renamed p g);
 }
+
+-- what is no controlled NOT can be done wherever its qubit lies
+pub can-anywhere : (n : ℕ) (d : Graph) (p : ℕ → ℕ) (g : Gate) → Placed n d p → Fit n g → Plain g → ((c q : ℕ) → g ≡ ControlledNot c q → ⊥) → Can d (renamed p g)
+can-anywhere n d p (Phase m q) l f k h = l.inside q f
+can-anywhere n d p (Hadamard q) l f k h = l.inside q f
+can-anywhere n d p (Not q) l f k h = l.inside q f
+can-anywhere n d p (ControlledNot c q) l f k h = absurd (h c q refl)
+can-anywhere n d p (Toffoli a c q) l f k h = absurd k
+
+-- and a controlled NOT where its qubits are joined
+pub can-joined : (n : ℕ) (d : Graph) (p : ℕ → ℕ) (c q : ℕ) → Placed n d p → Fit n (ControlledNot c q) → d.joined (p c) (p q) ≡ true → Can d (renamed p (ControlledNot c q))
+can-joined n d p c q l f j = (l.inside c f.0, l.inside q f.1, (λ e. f.2 (l.apart c q f.0 f.1 e)), j)
 
 -- only the places of the first n matter
 pub doing_like : {n : ℕ} {d : Graph} {p q : ℕ → ℕ} {gs ds : List Gate} (r : ℕ → ℕ) → Doing n d p q gs ds → ((k : ℕ) → k < n → q k ≡ r k) → Doing n d p r gs ds
@@ -115,7 +127,7 @@ brought n d cd c q hc hq ne a z ha (goes e b w hb j) p l ea eb =
       | inr u ↦ elim (cases_eq e b) [
         | inl v ↦ brought n d cd c q hc hq ne a e ha w p l ea (eb ∙ sym v)
         | inr v ↦
-            let m = swap_done n d p e b cd (way-inside d a e ha w) hb v j l in
+            let m = swap_done n d p e b (way-inside d a e ha w) hb v j (cd.even b e hb (way-inside d a e ha w)) l in
             let r = brought n d cd c q hc hq ne a e ha w (swapped e b p) m.placed (ap (other e b) ea ∙ other_away e b a (λ t. u (sym t)) (λ t. ne (l.apart c q hc hq (ea ∙ (t ∙ sym eb))))) (ap (other e b) eb ∙ other-here e b) in
             record { ds = swap_gates e b ++ r.ds; to = r.to; doing = after m r.doing; near = r.near }
       ]
@@ -128,7 +140,7 @@ one-gate n d p (Not q) f k cd l = (_, p, gate-done n d p (Not q) l f (l.inside q
 one-gate n d p (ControlledNot c q) f k cd l =
     let r = brought n d cd c q f.0 f.1 f.2 (p c) (p q) (l.inside c f.0) (cd.way (p c) (p q) (l.inside c f.0) (l.inside q f.1)) p l refl refl in
     let t = r.doing.placed in
-    (_, r.to, after r.doing (gate-done n d r.to (ControlledNot c q) t f (t.inside c f.0, t.inside q f.1, (λ e. f.2 (t.apart c q f.0 f.1 e)), r.near)))
+    (_, r.to, after r.doing (gate-done n d r.to (ControlledNot c q) t f (can-joined n d r.to c q t f r.near)))
 one-gate n d p (Toffoli a c q) f k cd l = absurd k
 
 pub routed : Routed

@@ -1,13 +1,13 @@
 -- What is written goes on.
-use Rattle.std.proofs.Common.{◌≡◌, ℕ, ◌+◌, ◌-◌, ◌<◌, true, List, [], ◌∷◌, ◌++◌, length, get_or, sym, refl, ap, ◌∙◌, subst, ap₂, append-nil, length-append}
+use Rattle.std.proofs.Common.{◌≡◌, ℕ, ◌+◌, ◌-◌, ◌<◌, true, List, [], ◌∷◌, ◌++◌, length, get_or, drop, sym, refl, ap, ◌∙◌, subst, ap₂, length-append}
 use borrow.Rule.Slice.PartMut.{put_mid}
 use Rattle.std.specs.List.{between}
-use Rattle.circuit.proofs.Codes.{codes-append}
+use Rattle.circuit.proofs.Codes.{codes-append, length-codes}
 use Rattle.circuit.specs.Circuit.{Fit}
 use Rattle.circuit.specs.Code.{code, codes}
 use Rattle.circuit.specs.declared.gate.Gate.{Gate}
-use Rattle.circuit.specs.declared.gate.Gate.TheVariants.{ControlledNot}
-use Rattle.device.specs.Coupling.{Graph, Connected, Can}
+use Rattle.circuit.specs.declared.gate.Gate.TheVariants.{Phase, Hadamard, Not, ControlledNot, Toffoli}
+use Rattle.device.specs.Coupling.{Graph, Can}
 use Rattle.device.specs.Layout.{Placed, at}
 use Rattle.compiler.specs.Emits.{Emitted, over}
 use Rattle.laws.specs.Rename.{renamed, other}
@@ -31,36 +31,29 @@ emit_more {es = es} {room = room} {room1 = room1} {k = k} ys l e m w c = record 
 }
 
 -- and a swap
-pub emit_swap : {n : ℕ} {d : Graph} {p : ℕ → ℕ} {room room1 : List ℕ} {k : ℕ} (place place1 ys : List ℕ) (x y : ℕ) → Connected d → x < d.size → y < d.size → (x ≡ y → ⊥) → d.joined x y ≡ true
+pub emit_swap : {n : ℕ} {d : Graph} {p : ℕ → ℕ} {room room1 : List ℕ} {k : ℕ} (place place1 ys : List ℕ) (x y : ℕ) → x < d.size → y < d.size → (x ≡ y → ⊥) → d.joined x y ≡ true → d.joined y x ≡ d.joined x y
     → ((j : ℕ) → j < n → get_or place1 j 0 ≡ other x y (get_or place j 0))
     → ys ≡ over (codes (swap_gates x y)) (between k (length room1) room1)
     → Emitted n d p (at place) [] room room1 k → Emitted n d p (at place1) [] room (put_mid k (length room1 - k) room1 ys) (k + 12)
 unfolding codes swap_gates swapped
-emit_swap {n = n} {d = d} place place1 ys x y cd hx hy ne j h w e =
-    emit_more ys 12 e (doing_like (at place1) (swap_done n d (at place) x y cd hx hy ne j e.doing.placed) (λ i hi. sym (h i hi))) w refl
+emit_swap {n = n} {d = d} place place1 ys x y hx hy ne j even h w e =
+    emit_more ys 12 e (doing_like (at place1) (swap_done n d (at place) x y hx hy ne j even e.doing.placed) (λ i hi. sym (h i hi))) w refl
 
 -- the four numbers of a gate
-one_code : (g : Gate) → codes (g ∷ []) ≡ code g
+one_code : (g : Gate) (room : List ℕ) → code g ++ drop 4 room ≡ over (codes (g ∷ [])) room
 unfolding codes
-one_code g = append-nil (code g)
+one_code (Phase m q) room = refl
+one_code (Hadamard q) room = refl
+one_code (Not q) room = refl
+one_code (ControlledNot c q) room = refl
+one_code (Toffoli c d q) room = refl
 
--- one gate on the places of its qubits
-pub emit_gate : (n : ℕ) (d : Graph) (p : ℕ → ℕ) (room room1 : List ℕ) (g : Gate) → Placed n d p → Fit n g → Can d (renamed p g) → room1 ≡ over (code (renamed p g)) room → Emitted n d p p (g ∷ []) room room1 (length (code (renamed p g)))
-emit_gate n d p room room1 g l f k w = record {
-  ds = renamed p g ∷ [];
-  doing = gate-done n d p g l f k;
-  wrote = w ∙ ap (λ (xs : List ℕ). over xs room) (sym (one_code (renamed p g)));
-  count = ap length (sym (one_code (renamed p g)));
-}
-
--- a controlled NOT, once the two are joined
-pub emit_controlled : {n : ℕ} {d : Graph} {p q : ℕ → ℕ} {room room1 : List ℕ} {k : ℕ} (ys : List ℕ) (a b : ℕ) → Fit n (ControlledNot a b) → d.joined (q a) (q b) ≡ true
-    → ys ≡ over (code (ControlledNot (q a) (q b))) (between k (length room1) room1)
-    → Emitted n d p q [] room room1 k → Emitted n d p q (ControlledNot a b ∷ []) room (put_mid k (length room1 - k) room1 ys) (k + 4)
-unfolding codes
-emit_controlled {n = n} {d = d} {q = q} ys a b f j w e =
-    let t = e.doing.placed in
-    emit_more ys 4 e (gate-done n d q (ControlledNot a b) t f (t.inside a f.0, t.inside b f.1, (λ u. f.2 (t.apart a b f.0 f.1 u)), j)) w refl
+-- a gate on the places of its qubits, which the device can do there
+pub emit_gate : {n : ℕ} {d : Graph} {p q : ℕ → ℕ} {room room1 : List ℕ} {k : ℕ} (ys : List ℕ) (g h : Gate) → Fit n g → Can d (renamed q g)
+    → h ≡ renamed q g → ys ≡ code h ++ drop 4 (between k (length room1) room1)
+    → Emitted n d p q [] room room1 k → Emitted n d p q (g ∷ []) room (put_mid k (length room1 - k) room1 ys) (k + 4)
+emit_gate {n = n} {d = d} {q = q} {room1 = room1} {k = k} ys g h f can is w e =
+    emit_more ys 4 e (gate-done n d q g e.doing.placed f can) (w ∙ ap (λ i. code i ++ drop 4 (between k (length room1) room1)) is ∙ one_code (renamed q g) _) (sym (length-codes (renamed q g ∷ [])))
 
 -- what was written behind goes with what was written before
 pub emit_then : {n n1 : ℕ} {d : Graph} {p q r : ℕ → ℕ} {gs hs : List Gate} {room room1 ys : List ℕ} {k l : ℕ} → n1 ≡ n

@@ -1,5 +1,5 @@
 pub mod Laid
-pub mod Swap
+pub mod Swapping
 pub mod Doings
 pub mod Roots
 pub mod Onward
@@ -8,6 +8,7 @@ pub mod Main
 mod Over
 mod Expansions
 mod Emit
+mod Nearing
 mod Costs
 mod Filling
 pub mod Refusing

@@ -1,5 +1,5 @@
 -- What is known of a circuit that passes the checks.
-use Rattle.std.proofs.Common.{◌≡◌, ℕ, ◌*◌, ◌≤◌, Bool, true, false, ◌&&◌, eqb, ltb, leb, List, [], length, Some, None, Option, sym, refl, ◌∙◌, arith}
+use Rattle.std.proofs.Common.{◌≡◌, ℕ, ◌*◌, ◌≤◌, Bool, true, false, ◌&&◌, eqb, ltb, leb, List, [], length, Some, None, Option, Result, sym, refl, ◌∙◌, arith}
 use Rattle.std.proofs.lemmas.Bool.{eqb-true, leb-true, le-leb}
 use Rattle.circuit.proofs.Codes.{fit_from_misfit, misfit_from-fit}
 use Rattle.circuit.specs.Circuit.{AllFit}
@@ -10,7 +10,6 @@ use Rattle.circuit.specs.declared.refusal.Refusal.TheVariants.{Qubits, Length, N
 use Rattle.circuit.specs.declared.refusal.Refusal.TheVariants as refusal
 use Rattle.device.specs.Checks.{beyond_from, misplaced_from}
 use Rattle.compiler.specs.Refuses.{sizes_refused, circuit_refused, Outcome, Compiles}
-use Rattle.compiler.specs.declared.pipeline.Compilation.{Compilation}
 
 both : (a b : Option Refusal) → or_else a b ≡ None → (a ≡ None) × (b ≡ None)
 both (Some f) b e = absurd (let z : ◌≡◌ {A = ℕ} 0 1 = cc in omega arith)
@@ -57,7 +56,7 @@ still-passed n size joined place gs cs out e brief fit =
     (λ i. or_else (sizes_refused n size (length joined) (length place) (few i) out) (or_else (at_place Number (beyond_from 2 0 joined)) (or_else (at_place refusal.Gate (fits i)) (at_place Layout (misplaced_from size [] 0 place)))))
     e
 
-pub not_refused : (o : Option Refusal) (n size : ℕ) (joined place : List ℕ) (gs : List Gate) (room room1 out out1 : List ℕ) (r : Compilation)
+pub not_refused : (o : Option Refusal) (n size : ℕ) (joined place : List ℕ) (gs : List Gate) (room room1 out out1 : List ℕ) (r : Result ℕ Refusal)
     → o ≡ None → Outcome n size joined place gs room room1 out out1 r → Compiles o n size joined place gs room room1 out out1 r
 not_refused (Some f) n size joined place gs room room1 out out1 r e h = absurd (let z : ◌≡◌ {A = ℕ} 0 1 = cc in omega arith)
 not_refused None n size joined place gs room room1 out out1 r e h = h

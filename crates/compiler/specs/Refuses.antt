@@ -11,8 +11,6 @@ use Rattle.device.specs.Connect.{CutOff}
 use Rattle.device.specs.Coupling.{Connected, graph_in}
 use Rattle.device.specs.Layout.{at}
 use Rattle.compiler.specs.Promise.{Filled}
-use Rattle.compiler.specs.declared.pipeline.Compilation.{Compilation}
-use Rattle.compiler.specs.declared.pipeline.Compilation.TheVariants.{Compiled, Refused}
 
 -- checks 1 and 2: how many qubits, and how long the lists are; few says that there are not too many gates
 abbrev pub sizes_refused : (n size joined place : ℕ) → Bool → (out : ℕ) → Option Refusal
@@ -49,24 +47,13 @@ abbrev pub enough : List Gate → ℕ
 enough gs = 300 * (4 * length gs)
 
 -- what comes of a circuit that passes the checks 1 to 5; where it is refused, nothing is written
-abbrev pub Outcome : (n size : ℕ) (joined place : List ℕ) (gs : List Gate) (room room₁ out out₁ : List ℕ) → Compilation → Type 0
-Outcome n size joined place gs room room₁ out out₁ (Compiled k) = Connected (graph_in size joined) × (enough gs ≤ length room) × Filled n (graph_in size joined) (at place) (at out₁) gs room room₁ k
-Outcome n size joined place gs room room₁ out out₁ (Refused (Device p)) = CutOff (graph_in size joined) p × (room₁ ≡ room) × (out₁ ≡ out)
-Outcome n size joined place gs room room₁ out out₁ (Refused (Room k)) = Connected (graph_in size joined) × (length room < enough gs) × (k ≡ length room) × (room₁ ≡ room) × (out₁ ≡ out)
-Outcome n size joined place gs room room₁ out out₁ (Refused (Qubits p)) = ⊥
-Outcome n size joined place gs room room₁ out out₁ (Refused (Length p)) = ⊥
-Outcome n size joined place gs room room₁ out out₁ (Refused (Number p)) = ⊥
-Outcome n size joined place gs room room₁ out out₁ (Refused (refusal.Gate p)) = ⊥
-Outcome n size joined place gs room room₁ out out₁ (Refused (Layout p)) = ⊥
-Outcome n size joined place gs room room₁ out out₁ (Refused (Mixes p)) = ⊥
-Outcome n size joined place gs room room₁ out out₁ (Refused (Text p)) = ⊥
+abbrev pub Outcome : (n size : ℕ) (joined place : List ℕ) (gs : List Gate) (room room₁ out out₁ : List ℕ) → Result ℕ Refusal → Type 0
+Outcome n size joined place gs room room₁ out out₁ (Ok k) = Connected (graph_in size joined) × (enough gs ≤ length room) × Filled n (graph_in size joined) (at place) (at out₁) gs room room₁ k
+Outcome n size joined place gs room room₁ out out₁ (Err (Device p)) = CutOff (graph_in size joined) p × (room₁ ≡ room) × (out₁ ≡ out)
+Outcome n size joined place gs room room₁ out out₁ (Err (Room k)) = Connected (graph_in size joined) × (length room < enough gs) × (k ≡ length room) × (room₁ ≡ room) × (out₁ ≡ out)
+Outcome n size joined place gs room room₁ out out₁ (Err _) = ⊥
 
 -- what comes of any circuit: the first check that fails is told, and nothing is written
-abbrev pub Compiles : Option Refusal → (n size : ℕ) (joined place : List ℕ) (gs : List Gate) (room room₁ out out₁ : List ℕ) → Compilation → Type 0
-Compiles (Some f) n size joined place gs room room₁ out out₁ r = (r ≡ Refused f) × (room₁ ≡ room) × (out₁ ≡ out)
+abbrev pub Compiles : Option Refusal → (n size : ℕ) (joined place : List ℕ) (gs : List Gate) (room room₁ out out₁ : List ℕ) → Result ℕ Refusal → Type 0
+Compiles (Some f) n size joined place gs room room₁ out out₁ r = (r ≡ Err f) × (room₁ ≡ room) × (out₁ ≡ out)
 Compiles None n size joined place gs room room₁ out out₁ r = Outcome n size joined place gs room room₁ out out₁ r
-
--- a check made: it passes, or tells the refusal
-abbrev pub Checked : Option Refusal → Result (Unit {0}) Refusal → Type 0
-Checked o (Ok _) = o ≡ None
-Checked o (Err f) = o ≡ Some f

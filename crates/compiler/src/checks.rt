@@ -1,84 +1,73 @@
 //! Whether a device, a layout and a circuit can be taken, by the first check that fails.
-ghost use Rattle.compiler.specs.Refuses.{Checked, circuit_refused, own_refused, sizes_refused};
+ghost use Rattle.std.specs.Prelude.{length};
+ghost use Rattle.circuit.specs.Refusals.{Checked, at_place, unless};
+ghost use Rattle.device.specs.Checks.{beyond_from};
+ghost use Rattle.compiler.specs.Refuses.{circuit_refused, own_refused, sizes_refused};
 
 use circuit::{Gate, Refusal, first_fault, first_misfit};
 use device::{first_beyond, first_misplaced};
 
-/// How many qubits there are, and how long the lists are; `few` says that there are not too many gates.
-fn check_sizes(
-    n: u64,
-    size: u64,
-    joined: usize,
-    place: usize,
-    few: bool,
-    out: usize,
-) -> Result<(), Refusal>
-    ensures { Checked (sizes_refused n size joined place few out) result }
-{
-    if n == 0 {
-        return Err(Refusal::Qubits(0));
-    }
-    if n > size || size > 16 {
-        return Err(Refusal::Qubits(1));
-    }
-    if joined as u64 != size * size {
-        return Err(Refusal::Length(0));
-    }
-    if place as u64 != n {
-        return Err(Refusal::Length(1));
-    }
-    if !few {
-        return Err(Refusal::Length(2));
-    }
-    if out as u64 != n {
-        return Err(Refusal::Length(4));
-    }
-    Ok(())
+/// What a circuit comes with: its number of qubits, a device by its size and its wires, a layout, and the length of the list for the final layout.
+#[derive(Clone, Copy)]
+pub struct Request<'a> {
+    pub n: u64,
+    pub size: u64,
+    pub joined: &'a [u8],
+    pub place: &'a [u8],
+    pub out: usize,
 }
 
-/// The first of the checks of a circuit that fails; `out` is how long the list for the final layout is.
-pub fn check_circuit(
-    n: u64,
-    size: u64,
-    joined: &[u8],
-    place: &[u8],
-    gates: &[Gate],
-    out: usize,
-) -> Result<(), Refusal>
-    ensures { Checked (circuit_refused n size joined.now place.now gates.now out) result }
+/// A refusal unless a test holds.
+fn unless(holds: bool, refusal: Refusal) -> Result<(), Refusal>
+    ensures { Checked (unless holds refusal) result }
 {
-    let few = gates.len() <= 256;
-    check_sizes(n, size, joined.len(), place.len(), few, out)?;
-    if let Some(wire) = first_beyond(2, joined) {
-        return Err(Refusal::Number(wire as u64));
-    }
-    if let Some(gate) = first_misfit(n, gates) {
-        return Err(Refusal::Gate(gate as u64));
-    }
-    if let Some(qubit) = first_misplaced(size, place) {
-        return Err(Refusal::Layout(qubit as u64));
-    }
-    Ok(())
+    if holds { Ok(()) } else { Err(refusal) }
 }
 
-/// The first of the checks that fails which a circuit in numbers has of its own.
-pub fn check_numbers(
-    n: u64,
-    size: u64,
-    joined: &[u8],
-    place: usize,
-    gates: &[u8],
-    out: usize,
-) -> Result<(), Refusal>
-    ensures { Checked (own_refused n size joined.now place gates.now out) result }
+/// The refusal, if there is one.
+fn refuse(refusal: Option<Refusal>) -> Result<(), Refusal>
+    ensures { Checked refusal result }
 {
-    let few = gates.len() % 4 == 0 && gates.len() <= 1024;
-    check_sizes(n, size, joined.len(), place, few, out)?;
-    if let Some(wire) = first_beyond(2, joined) {
-        return Err(Refusal::Number(wire as u64));
+    refusal.map_or(Ok(()), Err)
+}
+
+impl Request<'_> {
+    /// How many qubits there are, and how long the lists are; `few` says that there are not too many gates.
+    fn check_sizes(&self, few: bool) -> Result<(), Refusal>
+        ensures { Checked (sizes_refused self.now.n self.now.size (length self.now.joined.now) (length self.now.place.now) few self.now.out) result }
+    {
+        unless(0 < self.n, Refusal::Qubits(0))?;
+        unless(self.n <= self.size && self.size <= 16, Refusal::Qubits(1))?;
+        let joined = self.joined.len() as u64;
+        unless(joined == self.size * self.size, Refusal::Length(0))?;
+        unless(self.place.len() as u64 == self.n, Refusal::Length(1))?;
+        unless(few, Refusal::Length(2))?;
+        unless(self.out as u64 == self.n, Refusal::Length(4))
     }
-    if let Some(number) = first_fault(gates) {
-        return Err(Refusal::Number(number as u64));
+
+    /// Whether each number of a wire is nought or one.
+    fn check_wires(&self) -> Result<(), Refusal>
+        ensures { Checked (at_place Refusal.Number (beyond_from 2 0 self.now.joined.now)) result }
+    {
+        refuse(first_beyond(2, self.joined).map(|wire| Refusal::Number(wire as u64)))
     }
-    Ok(())
+
+    /// The first of the checks of a circuit that fails.
+    pub fn check_circuit(&self, gates: &[Gate]) -> Result<(), Refusal>
+        ensures { Checked (circuit_refused self.now.n self.now.size self.now.joined.now self.now.place.now gates.now self.now.out) result }
+    {
+        self.check_sizes(gates.len() <= 256)?;
+        self.check_wires()?;
+        refuse(first_misfit(self.n, gates).map(|gate| Refusal::Gate(gate as u64)))?;
+        refuse(first_misplaced(self.size, self.place).map(|qubit| Refusal::Layout(qubit as u64)))
+    }
+
+    /// The first of the checks that fails which a circuit in numbers has of its own.
+    pub(crate) fn check_numbers(&self, gates: &[u8]) -> Result<(), Refusal>
+        ensures { Checked (own_refused self.now.n self.now.size self.now.joined.now (length self.now.place.now) gates.now self.now.out) result }
+    {
+        self.check_sizes(gates.len() % 4 == 0 && gates.len() <= 1024)?;
+        self.check_wires()?;
+        refuse(first_fault(gates).map(|number| Refusal::Number(number as u64)))
+    }
 }

@@ -5,26 +5,23 @@ ghost use Rattle.compiler.specs.Emits.{over};
 ghost use Rattle.compiler.specs.Expand.{expanded, expansion, fifteen};
 
 use circuit::Gate;
+use laws::undone;
 
+/// A turn by one eighth.
 fn t(qubit: u8) -> Gate
     ensures { result ≡ Phase 1 qubit }
 {
     Gate::Phase { eighths: 1, qubit }
 }
 
-fn t_inverse(qubit: u8) -> Gate
-    ensures { result ≡ Phase 7 qubit }
-{
-    Gate::Phase { eighths: 7, qubit }
-}
-
-fn cnot(control: u8, target: u8) -> Gate
+pub fn cnot(control: u8, target: u8) -> Gate
     ensures { result ≡ ControlledNot control target }
 {
     Gate::ControlledNot { control, target }
 }
 
 /// The gates that do what a Toffoli does: two Hadamards, seven T gates or their inverses, and six controlled NOTs.
+#[tactic(auto, unfolding(laws::specs::Undo::undone))]
 fn fifteen(first: u8, second: u8, target: u8) -> [Gate; 15]
     ensures { result ≡ fifteen first second target }
 {
@@ -33,18 +30,18 @@ fn fifteen(first: u8, second: u8, target: u8) -> [Gate; 15]
     [
         Gate::Hadamard(target),
         by_second,
-        t_inverse(target),
+        undone(t(target)),
         by_first,
         t(target),
         by_second,
-        t_inverse(target),
+        undone(t(target)),
         by_first,
         t(second),
         t(target),
         Gate::Hadamard(target),
         cnot(first, second),
         t(first),
-        t_inverse(second),
+        undone(t(second)),
         cnot(first, second),
     ]
 }
@@ -72,6 +69,7 @@ fn expand(gate: Gate, out: &mut [Gate]) -> usize
 }
 
 /// Each Toffoli by its fifteen gates, the others as they are, and how many.
+// A lent room and a count: the entries on numbers allocate nothing, and a part of the room that is handed back would leave nothing to say of the room.
 pub fn decompose(gates: &[Gate], out: &mut [Gate]) -> usize
     requires { 15 * length gates.now ≤ length out.old }
     ensures count { result ≡ length (expanded gates.now) }

@@ -5,11 +5,13 @@ mod checks;
 mod decomposition;
 mod pipeline;
 mod policy;
+mod router;
 mod routing;
+mod swap;
 pub mod theorems;
 mod walk;
 
-pub use checks::check_circuit;
+pub use checks::Request;
 pub use decomposition::decompose;
-pub use pipeline::{Compilation, compile, compile_circuit};
+pub use pipeline::{compile, compile_circuit};
 pub use routing::route;

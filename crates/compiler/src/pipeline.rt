@@ -1,12 +1,12 @@
 //! A circuit brought onto a device, with everything that can be wrong with either told.
-ghost use Rattle.std.specs.Prelude.{◌<◌, length, Some, None};
+ghost use Rattle.std.specs.Prelude.{ℕ, ◌≡◌, ◌<◌, length, Ok, Err};
 ghost use Rattle.circuit.specs.Code.{gates_in};
 ghost use Rattle.device.specs.Board.{graph_of};
 ghost use Rattle.device.specs.Connect.{CutOff};
 ghost use Rattle.device.specs.Coupling.{Connected};
 ghost use Rattle.compiler.specs.Refuses.{Compiles, circuit_refused, numbers_refused};
 
-use crate::checks::{check_circuit, check_numbers};
+use crate::checks::Request;
 use crate::decomposition::decompose;
 use crate::routing::route;
 use circuit::{Gate, Refusal, decode};
@@ -15,26 +15,20 @@ use device::{Device, Fault, connected, device_from};
 /// How many numbers of room each number of a circuit is sure to find enough.
 const ROOM: usize = 300;
 
-/// What comes of a circuit.
-#[derive(Clone, Copy, PartialEq, Eq, Debug)]
-pub enum Compilation {
-    /// So many gates stand in the room.
-    Compiled(u64),
-    Refused(Refusal),
-}
-
-/// The place in the list of wires of a pair that shows that a device is not connected.
-fn cut_off(device: &Device) -> Option<u64>
-    ensures { elim result [ None ↦ Connected (graph_of device.now) | Some p ↦ CutOff (graph_of device.now) p ] }
+/// Refuses a device that is not connected, by the place in the list of wires of a pair that shows it.
+fn check_connected(device: &Device) -> Result<(), Refusal>
+    ensures { elim result [ Ok _ ↦ Connected (graph_of device.now) | Err refusal ↦ (p : ℕ) × (refusal ≡ Refusal.Device p) × CutOff (graph_of device.now) p ] }
 {
     match connected(device) {
-        Ok(()) => None,
-        Err(Fault::OneWay(a, b)) => Some((a * device.size + b) as u64),
-        Err(Fault::Apart(a, b)) => Some((a * device.size + b) as u64),
+        Ok(()) => Ok(()),
+        Err(Fault::OneWay(a, b) | Fault::Apart(a, b)) => {
+            Err(Refusal::Device((a * device.size + b) as u64))
+        }
     }
 }
 
-/// Brings a circuit of n qubits onto a device: writes the device's gates into the room, and the final layout into `place_out`.
+/// Brings a circuit of n qubits onto a device: writes the device's gates into the room, and the final layout into `place_out`. How many gates stand in the room.
+// The parameters and their order are those of the byte interface.
 pub fn compile_circuit(
     n: u64,
     size: u64,
@@ -43,27 +37,32 @@ pub fn compile_circuit(
     gates: &[Gate],
     room: &mut [u8],
     place_out: &mut [u8],
-) -> Compilation
+) -> Result<u64, Refusal>
     ensures { Compiles (circuit_refused n size joined.now place.now gates.now (length place_out.old)) n size joined.now place.now gates.now room.old room.new place_out.old place_out.new result }
 {
-    if let Err(refusal) = check_circuit(n, size, joined, place, gates, place_out.len()) {
-        return Compilation::Refused(refusal);
-    }
+    let out = place_out.len();
+    let request = Request {
+        n,
+        size,
+        joined,
+        place,
+        out,
+    };
+    request.check_circuit(gates)?;
     let device = device_from(size as usize, joined);
-    if let Some(pair) = cut_off(&device) {
-        return Compilation::Refused(Refusal::Device(pair));
-    }
+    check_connected(&device)?;
     if room.len() < ROOM * 4 * gates.len() {
-        return Compilation::Refused(Refusal::Room(room.len() as u64));
+        return Err(Refusal::Room(room.len() as u64));
     }
     place_out.copy_from_slice(place);
-    let mut plain = [Gate::Not(0); 3840];
-    let count = decompose(gates, &mut plain);
-    let numbers = route(&device, &plain[..count], place_out, room);
-    Compilation::Compiled((numbers / 4) as u64)
+    let mut buffer = [Gate::Not(0); 3840];
+    let count = decompose(gates, &mut buffer);
+    let numbers = route(&device, &buffer[..count], place_out, room);
+    Ok((numbers / 4) as u64)
 }
 
 /// The same of a circuit in numbers, four a gate.
+// The parameters and their order are those of the byte interface.
 pub fn compile(
     n: u64,
     size: u64,
@@ -72,12 +71,18 @@ pub fn compile(
     gates: &[u8],
     room: &mut [u8],
     place_out: &mut [u8],
-) -> Compilation
+) -> Result<u64, Refusal>
     ensures { Compiles (numbers_refused n size joined.now place.now gates.now (length place_out.old)) n size joined.now place.now (gates_in gates.now) room.old room.new place_out.old place_out.new result }
 {
-    if let Err(refusal) = check_numbers(n, size, joined, place.len(), gates, place_out.len()) {
-        return Compilation::Refused(refusal);
-    }
+    let out = place_out.len();
+    let request = Request {
+        n,
+        size,
+        joined,
+        place,
+        out,
+    };
+    request.check_numbers(gates)?;
     let mut buffer = [Gate::Not(0); 256];
     let list = &mut buffer[..gates.len() / 4];
     decode(gates, list);

@@ -1,82 +1,71 @@
-//! Which swap is proposed next. Nothing rests on it: what is proposed is made only after it is checked.
-use crate::walk::moved;
+//! Which swap is proposed next. No clause speaks of it: what is proposed is made only after it is checked.
+use crate::swap::Swap;
 use circuit::Gate;
 use device::Ways;
 
-/// How much the first of the controlled NOTs to come counts: each counts half of the one before, and eight are looked at.
-const FIRST: u64 = 128;
-
-/// A swap, and how far the qubits of the controlled NOTs to come are apart after it.
+/// What a policy goes by: how far places are apart, the gates to come, and where the qubits lie.
 #[derive(Clone, Copy)]
-struct Proposal {
-    x: u8,
-    y: u8,
-    apart: u64,
+pub struct View<'a> {
+    pub ways: &'a Ways,
+    pub later: &'a [Gate],
+    pub place: &'a [u8],
 }
 
-/// How far two qubits are apart after x and y are swapped.
-fn apart_after(ways: &Ways, place: &[u8], control: u8, target: u8, x: u8, y: u8) -> u64 {
-    match (place.get(control as usize), place.get(target as usize)) {
-        (Some(a), Some(b)) => {
-            ways.distance(moved(*a, x, y) as usize, moved(*b, x, y) as usize) as u64
-        }
-        _ => 0,
+/// Proposes swaps on the way of two qubits, which lie at a and b, to each other.
+pub trait Policy {
+    fn propose(&self, view: View<'_>, a: u8, b: u8) -> Option<Swap>;
+}
+
+/// How much the controlled NOTs to come count, the nearest first.
+const WEIGHTS: [u8; 8] = [128, 64, 32, 16, 8, 4, 2, 1];
+
+impl View<'_> {
+    /// Whether a swap is one step toward a place.
+    fn leads(self, step: Swap, to: u8) -> bool {
+        let (from, next, to) = (step.x as usize, step.y as usize, to as usize);
+        self.ways.distance(from, next) == 1
+            && self.ways.distance(next, to) < self.ways.distance(from, to)
     }
-}
 
-/// How far the qubits of the controlled NOTs to come are apart after x and y are swapped, the nearer gates counting more.
-fn apart_ahead(ways: &Ways, later: &[Gate], place: &[u8], x: u8, y: u8) -> u64 {
-    let mut sum: u64 = 0;
-    let mut weight = FIRST;
-    for gate in later {
-        if weight == 0 {
-            return sum;
-        }
-        if let Gate::ControlledNot { control, target } = *gate {
-            let apart = apart_after(ways, place, control, target, x, y);
-            sum = sum.saturating_add(weight.saturating_mul(apart));
-            weight /= 2;
-        }
+    /// How far two qubits are apart after a swap.
+    fn apart_after(self, control: u8, target: u8, swap: Swap) -> u8 {
+        let control = self.place.get(control as usize);
+        let target = self.place.get(target as usize);
+        control.zip(target).map_or(0, |(a, b)| {
+            self.ways
+                .distance(swap.moved(*a) as usize, swap.moved(*b) as usize)
+        })
     }
-    sum
-}
 
-/// The best of a proposal and of the swaps that bring what lies at `from` one step toward `to`.
-fn better(
-    ways: &Ways,
-    later: &[Gate],
-    place: &[u8],
-    from: u8,
-    to: u8,
-    proposal: Proposal,
-) -> Proposal {
-    let mut best = proposal;
-    let now = ways.distance(from as usize, to as usize);
-    for next in 0..16 {
-        if ways.distance(from as usize, next as usize) == 1
-            && ways.distance(next as usize, to as usize) < now
-        {
-            let apart = apart_ahead(ways, later, place, from, next);
-            if apart < best.apart {
-                best = Proposal {
-                    x: from,
-                    y: next,
-                    apart,
-                };
+    /// How far the qubits of the controlled NOTs to come are apart after a swap, the nearer gates counting more.
+    fn apart_ahead(self, swap: Swap) -> u32 {
+        let apart = self.later.iter().filter_map(|gate| match *gate {
+            Gate::ControlledNot { control, target } => {
+                Some(self.apart_after(control, target, swap))
             }
-        }
+            _ => None,
+        });
+        WEIGHTS
+            .iter()
+            .zip(apart)
+            .fold(0, |sum: u32, (weight, apart)| {
+                sum.saturating_add(u32::from(*weight) * u32::from(apart))
+            })
     }
-    best
 }
 
-/// A step of one of two qubits, which lie at a and b, toward the other: the one after which the qubits of the controlled NOTs to come are nearest together.
-pub fn propose(ways: &Ways, later: &[Gate], place: &[u8], a: u8, b: u8) -> (u8, u8) {
-    let nothing = Proposal {
-        x: a,
-        y: a,
-        apart: u64::MAX,
-    };
-    let first = better(ways, later, place, b, a, nothing);
-    let best = better(ways, later, place, a, b, first);
-    (best.x, best.y)
+/// The step of one of the two toward the other after which the qubits of the controlled NOTs to come are nearest together.
+#[derive(Clone, Copy)]
+pub struct LookAhead;
+
+impl Policy for LookAhead {
+    fn propose(&self, view: View<'_>, a: u8, b: u8) -> Option<Swap> {
+        let of_b = (0..16)
+            .map(|next| Swap { x: b, y: next })
+            .filter(|step| view.leads(*step, a));
+        let of_a = (0..16)
+            .map(|next| Swap { x: a, y: next })
+            .filter(|step| view.leads(*step, b));
+        of_b.chain(of_a).min_by_key(|step| view.apart_ahead(*step))
+    }
 }

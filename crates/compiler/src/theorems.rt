@@ -12,6 +12,7 @@ pub fn laid_does_stands() -> u8
 }
 
 /// Three controlled NOTs swap two places.
+#[tactic(auto, using(crate::proofs::Swapping::swap_lays))]
 pub fn swap_lays_stands() -> u8
     ensures { SwapLays }
 {
@@ -19,6 +20,7 @@ pub fn swap_lays_stands() -> u8
 }
 
 /// After a swap no two qubits lie at one place.
+#[tactic(auto, using(crate::proofs::Swapping::swap_placed))]
 pub fn swap_placed_stands() -> u8
     ensures { SwapPlaced }
 {
@@ -33,6 +35,7 @@ pub fn on_and_on_stands() -> u8
 }
 
 /// A circuit without Toffolis can be done on every connected device.
+#[tactic(auto, using(crate::proofs::Doings::routed))]
 pub fn routed_stands() -> u8
     ensures { Routed }
 {
@@ -68,6 +71,7 @@ pub fn expanded_plain_stands() -> u8
 }
 
 /// Every circuit can be done on every connected device that is large enough.
+#[tactic(auto, using(crate::proofs::Main::compiled))]
 pub fn compiled_stands() -> u8
     ensures { Compilable }
 {

@@ -1,42 +1,69 @@
--- How far two places of a connected device are apart.
-use Rattle.std.proofs.Common.{◌≡◌, ℕ, ◌+◌, ◌<◌, true, List, [], get_or, sym, arith}
-use Rattle.std.proofs.lemmas.Bool.Decides.{nat_tests}
+-- How far two places of a device are apart.
+use Rattle.std.proofs.Common.{◌≡◌, ℕ, ◌+◌, ◌<◌, true, List, [], length, Option, get_or, sym, ap, ◌∙◌, subst, arith}
 use Rattle.device.specs.Coupling.{Graph, Connected}
-use Rattle.device.specs.Distances.{AllGrown, apart}
+use Rattle.device.specs.Distances.{AllGrown, Nearer, apart, onward}
+use Rattle.device.specs.Hops.{distances, nexts}
 use Rattle.device.specs.Trees.{Grown}
+use Rattle.device.specs.declared.hop.Hop.{Hop}
 use Rattle.device.specs.declared.ways.Ways.{Ways}
-use Rattle.device.proofs.Growth.{reached_most, way-reached, Hop, hop, last_hop}
+use Rattle.device.proofs.Growth.{reached_most, way-reached, hop, last_hop}
+use Rattle.device.proofs.Reading.{far_at, next_at, wide}
 
-module _ (d : Graph) (w : Ways) (all : AllGrown d w) (cd : Connected d) (a b : ℕ) (ha : a < d.size) (hb : b < d.size) where
-  abbrev far : List ℕ
-  far = get_or w.distance a []
+-- the tree from a, which is there
+module _ (d : Graph) (w : Ways) (all : AllGrown d w) (a : ℕ) (ha : a < d.size) where
+  abbrev row : List (Option Hop)
+  row = get_or w.hops a []
 
-  abbrev up : List ℕ
-  up = get_or w.toward a []
-
-  tree : Grown d a far up
+  tree : Grown d a (distances row) (nexts row)
   tree = all.each a ha
 
-  there : (y : ℕ) → y < d.size → apart w a y ≡ get_or far y 0
-  there y hy = let h : w.size ≡ d.size = all.whole in grind (arith, nat_tests)
+  long : (y : ℕ) → y < d.size → y < length row
+  long y hy = omega (arith, all.small, wide d a row tree)
 
-  reached : get_or far b 0 < 255
-  reached = way-reached d a far up tree (all.shut a ha) b (cd.way a b ha hb)
+  pub apart_at : (y : ℕ) → y < d.size → apart w a y ≡ get_or (distances row) y 0
+  apart_at y hy = sym (far_at row y (long y hy))
+
+  onward_at : (y : ℕ) → y < d.size → onward w a y ≡ get_or (nexts row) y 0
+  onward_at y hy = sym (next_at row y (long y hy))
+
+  -- the next place on the way is nearer
+  next_nearer : (b : ℕ) → b < d.size → 0 < apart w a b → apart w a b < 255 → Nearer d w a b (onward w a b)
+  next_nearer b hb z u =
+      let s = apart_at b hb in
+      let h = hop d a (distances row) (nexts row) tree b hb (omega (arith, s)) (omega (arith, s)) in
+      subst (Nearer d w a b) (sym (onward_at b hb)) (record {
+        inside = h.inside;
+        joined = h.linked;
+        less = ap (λ i. i + 1) (apart_at _ h.inside) ∙ (h.less ∙ sym s);
+        moves = h.moves;
+        away = h.away;
+        short = λ t. h.short (omega (arith, s));
+      })
+
+pub nearer : (d : Graph) (w : Ways) → AllGrown d w → (a b : ℕ) → 0 < apart w a b → apart w a b < 255 → Nearer d w a b (onward w a b)
+nearer d w all a b z u = let p = all.within a b u in next_nearer d w all a p.0 b p.1 z u
+
+-- of a connected device
+module _ (d : Graph) (w : Ways) (all : AllGrown d w) (cd : Connected d) (a b : ℕ) (ha : a < d.size) (hb : b < d.size) where
+  abbrev steps : List ℕ
+  steps = distances (get_or w.hops a [])
+
+  at : apart w a b ≡ get_or steps b 0
+  at = apart_at d w all a ha b hb
+
+  reached : get_or steps b 0 < 255
+  reached = way-reached d a steps _ (all.each a ha) (all.shut a ha) b (cd.way a b ha hb)
 
   -- fifteen steps at most
   pub apart_low : apart w a b < 16
-  apart_low = omega (arith, there b hb, tree.low b hb reached, reached_most far, tree.wide)
+  apart_low = omega (arith, at, (all.each a ha).low b hb reached, reached_most steps, (all.each a ha).wide)
 
-  -- two places that are not joined are two steps apart at least
+  -- two places are one step apart at least, and two if they are not joined
+  pub apart-one : (a ≡ b → ⊥) → 0 < apart w a b
+  apart-one ne = let z : get_or steps b 0 ≡ 0 → ⊥ = λ e. ne (sym ((all.each a ha).only b hb e)) in omega (arith, at)
+
   pub apart-two : (a ≡ b → ⊥) → (d.joined a b ≡ true → ⊥) → 1 < apart w a b
   apart-two ne nj =
-      let z : get_or far b 0 ≡ 0 → ⊥ = λ e. ne (sym (tree.only b hb e)) in
-      let o : get_or far b 0 ≡ 1 → ⊥ = λ e. nj (last_hop d a far up tree b hb e) in
-      omega (arith, there b hb)
-
-  -- and the next place on the way is nearer
-  pub apart_hop : 1 < apart w a b → Hop d a far b (get_or up b 0)
-  apart_hop h = hop d a far up tree b hb (omega (arith, there b hb)) reached
-
-  pub apart_less : 1 < apart w a b → apart w a (get_or up b 0) + 1 ≡ apart w a b
-  apart_less h = let p = apart_hop h in omega (arith, there (get_or up b 0) p.inside, there b hb, p.less)
+      let z : get_or steps b 0 ≡ 0 → ⊥ = λ e. ne (sym ((all.each a ha).only b hb e)) in
+      let o : get_or steps b 0 ≡ 1 → ⊥ = λ e. nj (last_hop d a steps _ (all.each a ha) b hb e) in
+      omega (arith, at)

@@ -1,5 +1,5 @@
 -- A tree takes in one more place.
-use Rattle.std.proofs.Common.{◌≡◌, ℕ, zero, suc, ◌+◌, ◌<◌, ◌≤◌, true, ◌⊎◌, List, [], ◌∷◌, length, get_or, set, replicate, sym, refl, ap, ◌∙◌, subst, ap₂, inl, inr, arith, length-set, get_or-set_other, get_or-set_same, below_more}
+use Rattle.std.proofs.Common.{◌≡◌, ℕ, zero, suc, ◌+◌, ◌<◌, ◌≤◌, true, ◌⊎◌, ◌≢◌, List, [], ◌∷◌, length, get_or, set, replicate, sym, refl, ap, ◌∙◌, subst, ap₂, inl, inr, arith, length-set, get_or-set_other, get_or-set_same, below_more}
 use lib.ListN.{get_or-replicate}
 use Rattle.std.proofs.lemmas.Bool.Decides.{nat_tests}
 use Rattle.std.proofs.lemmas.Bool.{cases_eq}
@@ -33,6 +33,10 @@ module _ (d : Graph) (a : ℕ) (far up : List ℕ) (g : Grown d a far up) (le : 
 
   count : reached (set far y (get_or far x 0 + 1)) ≡ reached far + 1
   count = reached-set far y (get_or far x 0 + 1) (omega (arith, g.wide)) fy (omega (arith, small))
+
+  -- it is fifteen steps away at most
+  pub short : get_or far x 0 + 1 < 16
+  short = omega (arith, g.low x hx fx, count, reached_most (set far y (get_or far x 0 + 1)), length-set far y (get_or far x 0 + 1), g.wide)
 
   -- what holds of far at k holds of the new one, at the new place and at the others
   at : (k : ℕ) → ((k ≡ y) × (get_or (set far y (get_or far x 0 + 1)) k 0 ≡ get_or far x 0 + 1)) ⊎ ((k ≡ y → ⊥) × (get_or (set far y (get_or far x 0 + 1)) k 0 ≡ get_or far k 0))
@@ -89,10 +93,7 @@ module _ (d : Graph) (a : ℕ) (far up : List ℕ) (g : Grown d a far up) (le : 
 pub spread_same : (d : Graph) (was far : List ℕ) (x y : ℕ) → Spread d was far x y → (d.joined x y ≡ true → get_or far y 0 < 255) → Spread d was far x (y + 1)
 spread_same d was far x y sp h = record { kept = sp.kept; new = sp.new; near = below_more (λ k. d.joined x k ≡ true → get_or far k 0 < 255) y sp.near h }
 
--- a sweep begins, goes on by a place that it spreads from or by one that it leaves, and ends
-pub sweep_none : (d : Graph) (far : List ℕ) (e : ℕ) → Closed d far e → Swept d far e 0
-sweep_none d far e c = record { shut = c.shut; edge = λ x h z. omega (arith, c.edge x h z); done = λ x h. absurd (omega arith) }
-
+-- a sweep goes on by a place that it spreads from or by one that it leaves
 pub sweep_more : (d : Graph) (far far1 : List ℕ) (e x : ℕ) → x < d.size → e < 200 → get_or far x 0 ≡ e → Swept d far e x → Spread d far far1 x d.size → Swept d far1 e (x + 1)
 sweep_more d far far1 e x hx he fx sw sp = record {
   shut = λ y k hy hk z u. elim (sp.new y hy (omega arith)) [
@@ -114,27 +115,18 @@ sweep_more d far far1 e x hx he fx sw sp = record {
 pub sweep_same : (d : Graph) (far : List ℕ) (e x : ℕ) → (get_or far x 0 ≡ e → ⊥) → Swept d far e x → Swept d far e (x + 1)
 sweep_same d far e x n sw = record { shut = sw.shut; edge = sw.edge; done = below_more (λ y. y < d.size → (k : ℕ) → k < d.size → get_or far y 0 ≡ e → d.joined y k ≡ true → get_or far k 0 < 255) x sw.done (λ hm k hk z. absurd (n z)) }
 
-pub sweep_all : (d : Graph) (far : List ℕ) (e : ℕ) → Swept d far e d.size → Closed d far (e + 1)
-sweep_all d far e sw = record {
-  shut = λ x k hx hk z u. elim (cases_eq (get_or far x 0) e) [ inl v ↦ sw.done x hx hx k hk v u | inr v ↦ sw.shut x k hx hk (omega arith) u ];
-  edge = sw.edge;
-}
-
 -- the tree that has its root alone
-abbrev blank : List ℕ
+abbrev pub blank : List ℕ
 blank = replicate 16 255
-
-abbrev zeros : List ℕ
-zeros = replicate 16 0
 
 module _ (d : Graph) (a : ℕ) (le : d.size ≤ 16) (ha : a < d.size) where
   at0 : (k : ℕ) → k < d.size → ((k ≡ a) × (get_or (set blank a 0) k 0 ≡ 0)) ⊎ ((k ≡ a → ⊥) × (get_or (set blank a 0) k 0 ≡ 255))
   at0 k hk = elim (at_set blank a 0 k (omega arith)) [ inl e ↦ inl e | inr e ↦ inr (e.0, e.1 ∙ get_or-replicate 16 k 255 0 (omega arith)) ]
 
-  pub grown_one : Grown d a (set blank a 0) zeros
-  grown_one = record {
+  pub grown_one : (up : List ℕ) → length up ≡ 16 → Grown d a (set blank a 0) up
+  grown_one up high = record {
     wide = length-set blank a 0;
-    high = refl;
+    high = high;
     at = ha;
     root = elim (at0 a ha) [ inl e ↦ e.1 | inr e ↦ absurd (e.0 refl) ];
     only = λ k hk z. elim (at0 k hk) [ inl e ↦ e.0 | inr e ↦ absurd (omega (arith, e.1)) ];
@@ -174,25 +166,25 @@ way-reached d a far up g sh x w = (reaches d a far g.at (omega (arith, g.root)) 
 pub no_way : (d : Graph) (a : ℕ) (far up : List ℕ) → Grown d a far up → Shut d far → (x : ℕ) → (get_or far x 0 < 255 → ⊥) → Way d a x → ⊥
 no_way d a far up g sh x n w = n (way-reached d a far up g sh x w)
 
--- one hop towards the root, from a place that is not next to it
-pub record Hop (d : Graph) (a : ℕ) (far : List ℕ) (x y : ℕ) : Type 0 where
+-- one hop towards the root
+pub record Onward (d : Graph) (a : ℕ) (far : List ℕ) (x y : ℕ) : Type 0 where
   pub inside : y < d.size
   pub linked : d.joined y x ≡ true
   pub less : get_or far y 0 + 1 ≡ get_or far x 0
-  pub moves : y ≡ x → ⊥
-  pub short : y ≡ a → ⊥
-  pub away : x ≡ a → ⊥
+  pub moves : y ≢ x
+  pub away : x ≢ a
+  pub short : 1 < get_or far x 0 → y ≢ a
 
-pub hop : (d : Graph) (a : ℕ) (far up : List ℕ) → Grown d a far up → (x : ℕ) → x < d.size → 1 < get_or far x 0 → get_or far x 0 < 255 → Hop d a far x (get_or up x 0)
+pub hop : (d : Graph) (a : ℕ) (far up : List ℕ) → Grown d a far up → (x : ℕ) → x < d.size → 0 < get_or far x 0 → get_or far x 0 < 255 → Onward d a far x (get_or up x 0)
 hop d a far up g x hx z u =
-    let st : get_or far (get_or up x 0) 0 + 1 ≡ get_or far x 0 = g.step x hx (omega arith) u in
+    let st : get_or far (get_or up x 0) 0 + 1 ≡ get_or far x 0 = g.step x hx z u in
     record {
-      inside = g.inside x hx (omega arith) u;
-      linked = g.linked x hx (omega arith) u;
+      inside = g.inside x hx z u;
+      linked = g.linked x hx z u;
       less = st;
       moves = λ e. omega (arith, ap (λ i. get_or far i 0) e);
-      short = λ e. omega (arith, ap (λ i. get_or far i 0) e, g.root);
       away = λ e. omega (arith, ap (λ i. get_or far i 0) e, g.root);
+      short = λ t e. omega (arith, ap (λ i. get_or far i 0) e, g.root);
     }
 
 -- and the last one

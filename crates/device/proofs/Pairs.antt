@@ -1,8 +1,13 @@
 -- Pairs of places in the order of their place in the list of wires.
-use Rattle.std.proofs.Common.{◌≡◌, ℕ, ◌+◌, ◌*◌, ◌<◌, ◌≤◌, ◌⊎◌, sym, ap, subst, inl, inr, mul-le-mul_right, arith}
+use Rattle.std.proofs.Common.{◌≡◌, ℕ, ◌+◌, ◌*◌, ◌<◌, ◌≤◌, ◌⊎◌, Some, None, Option, MatchOption, sym, ap, subst, inl, inr, mul-le-mul_right, arith}
 use Rattle.std.proofs.lemmas.Bool.{cases_order}
 use Rattle.device.specs.Coupling.{Graph, Connected}
-use Rattle.device.specs.Connect.{CutOff, CutOffTells}
+use Rattle.device.specs.Connect.{CutOff, CutOffTells, FirstNot}
+
+-- what `find` gives over the places below n, in the words of the specification
+pub first_not : (P : ℕ → Type 0) (n : ℕ) (r : Option ℕ) → MatchOption r ((k : ℕ) → 0 ≤ k → k < n → P k) (λ i. (0 ≤ i) × (i < n) × (P i → ⊥) × ((k : ℕ) → 0 ≤ k → k < i → P k)) → FirstNot P n r
+first_not P n None h = λ k l. h k (omega arith) l
+first_not P n (Some i) h = (h.1, h.2, λ k l. h.3 k (omega arith) l)
 
 -- one pair before another: in a row before it, or in the same row
 before : (n x y a b : ℕ) → b < n → x * n + y < a * n + b → (x < a) ⊎ ((x ≡ a) × (y < b))

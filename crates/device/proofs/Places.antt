@@ -1,22 +1,23 @@
 -- The checks of numbers: one step of each, and what it means to pass.
-use Rattle.std.proofs.Common.{◌≡◌, ℕ, zero, suc, ◌+◌, ◌<◌, Bool, true, false, cond, not, ◌&&◌, eqb, ltb, List, [], ◌∷◌, ◌++◌, length, get_or, take, drop, Some, None, Decides, Option, sym, refl, ap, ◌∙◌, subst, inl, inr, append_assoc, add-zero, arith, length-append, below_more}
-use Rattle.std.specs.List.{IsAnyAnswer, HoldsAt}
-use Rattle.std.proofs.lemmas.List.Elements.{contains_decides}
-use Rattle.std.proofs.lemmas.List.{drop_more, take_more, length_push, get_or_push, get_or_default, get_or_append_left, get_or-append-add, append-nil}
-use Rattle.std.proofs.lemmas.Bool.{cases_lt, and_parts, and_from, ltb-true, lt-ltb, not-true, cond-true, cond-false}
-use Rattle.std.proofs.lemmas.Bool.Decides.{same_from_decides, Decides-by_or, Decides-eqb, Decides-not, not_from_Decides}
+use Rattle.std.proofs.Common.{◌≡◌, ℕ, zero, suc, ◌+◌, ◌<◌, Bool, true, false, cond, not, eqb, ltb, List, [], ◌∷◌, ◌++◌, length, get_or, take, Some, None, Decides, Option, sym, refl, ap, ◌∙◌, subst, ap₂, inl, inr, append_assoc, add-zero, arith, length-append, below_more}
+use Rattle.std.specs.List.{HoldsAt, list_any, enumerate_from, position_from}
+use Rattle.std.proofs.Math.Seq.{take-append_seam}
+use Rattle.std.proofs.lemmas.List.{length_push, get_or_push, get_or_default, get_or_append_left, get_or-append-add, append-nil}
+use Rattle.std.proofs.lemmas.Bool.{cases_lt, and_parts, and_from, ltb-true, lt-ltb, not-true, cond-true}
+use Rattle.std.proofs.lemmas.Bool.Decides.{Decides-by_or, Decides-eqb, Decides-not, not_from_Decides}
 use Rattle.device.specs.Coupling.{Graph}
 use Rattle.device.specs.Layout.{Placed, at}
-use Rattle.device.specs.Checks.{beyond_from, among, misplaced_from, LayoutTold}
+use Rattle.device.specs.Checks.{beyond_from, fits, misplaced_from, LayoutTold}
 
--- a number below the limit is passed over, and any other is the answer
-pub beyond_more : (limit i : ℕ) (xs : List ℕ) → i < length xs → get_or xs i 0 < limit → beyond_from limit i (drop i xs) ≡ beyond_from limit (i + 1) (drop (i + 1) xs)
-unfolding beyond_from
-beyond_more limit i xs h l = ap (beyond_from limit i) (drop_more xs i 0 h) ∙ cond-true _ _ _ (lt-ltb _ _ l)
+cond_flip : (b : Bool) (u v : Option ℕ) → cond (not b) u v ≡ cond b v u
+cond_flip true u v = refl
+cond_flip false u v = refl
 
-pub beyond_here : (limit i : ℕ) (xs : List ℕ) → i < length xs → ltb (get_or xs i 0) limit ≡ false → beyond_from limit i (drop i xs) ≡ Some i
+-- it is the first number of which the test fails
+pub beyond_position : (limit i : ℕ) (xs : List ℕ) → position_from (λ x. not (ltb x limit)) i xs ≡ beyond_from limit i xs
 unfolding beyond_from
-beyond_here limit i xs h l = ap (beyond_from limit i) (drop_more xs i 0 h) ∙ cond-false _ _ _ l
+beyond_position limit i [] = refl
+beyond_position limit i (x ∷ xs) = cond_flip (ltb x limit) _ _ ∙ ap (λ r. cond (ltb x limit) r (Some i)) (beyond_position limit (i + 1) xs)
 
 -- what stands under a test that must be true
 under : (t : Bool) (o : Option ℕ) (i : ℕ) → cond t o (Some i) ≡ None → (t ≡ true) × (o ≡ None)
@@ -30,27 +31,20 @@ all-below limit i [] e k h = absurd (omega arith)
 all-below limit i (x ∷ xs) e zero h = ltb-true x limit (under _ _ i e).0
 all-below limit i (x ∷ xs) e (suc k) h = all-below limit (i + 1) xs (under _ _ i e).1 k (omega arith)
 
-pub among-told : (x : ℕ) (ys : List ℕ) → Decides (among x ys) ((k : ℕ) × (k < length ys) × HoldsAt (λ y. y ≡ x) ys k)
-unfolding among
-among-told x ys = Decides-by_or (λ y. eqb y x) (λ y. y ≡ x) (among x) (λ y. Decides-eqb y x) refl (λ _ _. refl) ys
+-- whether a place is among others
+among-told : (x : ℕ) (ys : List ℕ) → Decides (list_any (λ y. eqb y x) ys) ((k : ℕ) × (k < length ys) × HoldsAt (λ y. y ≡ x) ys k)
+among-told x ys = Decides-by_or (λ y. eqb y x) (λ y. y ≡ x) (list_any (λ y. eqb y x)) (λ y. Decides-eqb y x) refl (λ _ _. refl) ys
 
--- a place that is there and new is passed over, and any other is the answer
-abbrev fits : ℕ → List ℕ → ℕ → Bool
-fits size before x = ltb x size && not (among x before)
-
-pub misplaced_more : (size i : ℕ) (xs : List ℕ) → i < length xs → fits size (take i xs) (get_or xs i 0) ≡ true → misplaced_from size (take i xs) i (drop i xs) ≡ misplaced_from size (take (i + 1) xs) (i + 1) (drop (i + 1) xs)
+-- it is the first place that does not fit behind those before it
+pub misplaced_position : (size : ℕ) (all before ys : List ℕ) (i : ℕ) → length before ≡ i → before ++ ys ≡ all → position_from (λ p. not (fits size (take p.0 all) p.1)) i (enumerate_from i ys) ≡ misplaced_from size before i ys
 unfolding misplaced_from
-misplaced_more size i xs h t =
-    ap (misplaced_from size (take i xs) i) (drop_more xs i 0 h)
-    ∙ (cond-true _ _ _ t ∙ ap (λ ys. misplaced_from size ys (i + 1) (drop (i + 1) xs)) (sym (take_more xs i 0 h)))
-
-pub misplaced_here : (size i : ℕ) (xs : List ℕ) → i < length xs → fits size (take i xs) (get_or xs i 0) ≡ false → misplaced_from size (take i xs) i (drop i xs) ≡ Some i
-unfolding misplaced_from
-misplaced_here size i xs h t = ap (misplaced_from size (take i xs) i) (drop_more xs i 0 h) ∙ cond-false _ _ _ t
-
--- a test for the places before is that of `contains`
-pub contains_among : (x : ℕ) (ys : List ℕ) (r : Bool) → IsAnyAnswer (λ y t. eqb y x ≡ t) ys r → r ≡ among x ys
-contains_among x ys r h = same_from_decides r (among x ys) (contains_decides eqb Decides-eqb ys x r h) (among-told x ys)
+misplaced_position size all before [] i n e = refl
+misplaced_position size all before (y ∷ ys) i n e =
+    let t : take i all ≡ before = ap₂ take (sym n) (sym e) ∙ take-append_seam before (y ∷ ys) in
+    let rest : Option ℕ = position_from (λ (p : ℕ × ℕ). not (fits size (take p.0 all) p.1)) (i + 1) (enumerate_from (i + 1) ys) in
+    ap (λ zs. cond (not (fits size zs y)) (Some i) rest) t
+    ∙ (cond_flip (fits size before y) _ _
+    ∙ ap (λ r. cond (fits size before y) r (Some i)) (misplaced_position size all (before ++ (y ∷ [])) ys (i + 1) (length_push before y ∙ ap (λ k. k + 1) n) (append_assoc before (y ∷ []) ys ∙ e)))
 
 -- one place more
 module _ (d : Graph) (xs : List ℕ) (x : ℕ) (l : Placed (length xs) d (at xs)) (t : fits d.size xs x ≡ true) where
@@ -66,11 +60,11 @@ module _ (d : Graph) (xs : List ℕ) (x : ℕ) (l : Placed (length xs) d (at xs)
   inside-more : (k : ℕ) → k < length xs + 1 → get_or ys k 0 < d.size
   inside-more = below_more (λ k. get_or ys k 0 < d.size) (length xs)
       (λ k h. subst (λ v. v < d.size) (sym (there k h)) (l.inside k h))
-      (subst (λ v. v < d.size) (sym here) (ltb-true x d.size (and_parts (ltb x d.size) (not (among x xs)) t).0))
+      (subst (λ v. v < d.size) (sym here) (ltb-true x d.size (and_parts (ltb x d.size) (not (list_any (λ y. eqb y x) xs)) t).0))
 
   clash : (k m : ℕ) → k < length xs → m ≡ length xs → get_or ys k 0 ≡ get_or ys m 0 → ⊥
   clash k m h q e =
-      not_from_Decides (among x xs) (among-told x xs) (not-true (among x xs) (and_parts (ltb x d.size) (not (among x xs)) t).1)
+      not_from_Decides (list_any (λ y. eqb y x) xs) (among-told x xs) (not-true (list_any (λ y. eqb y x) xs) (and_parts (ltb x d.size) (not (list_any (λ y. eqb y x) xs)) t).1)
       (k, h, λ z. get_or_default xs k z 0 h ∙ (sym (there k h) ∙ (e ∙ (ap (λ i. get_or ys i 0) q ∙ here))))
 
   apart_more : (k m : ℕ) → k < length xs + 1 → m < length xs + 1 → get_or ys k 0 ≡ get_or ys m 0 → k ≡ m
@@ -106,8 +100,8 @@ next_fits d xs y ys l =
     let new : ((k : ℕ) × (k < length xs) × HoldsAt (λ z. z ≡ y) xs k) → ⊥ = λ w.
     let same : w.0 ≡ length xs = l.apart w.0 (length xs) (omega (arith, w.1)) (omega arith) (get_or_append_left xs (y ∷ ys) 0 w.0 w.1 ∙ (w.2 0 ∙ sym q)) in
     omega (arith, w.1) in
-    and_from (ltb y d.size) (not (among y xs)) (lt-ltb y d.size below)
-    ((Decides-not (among y xs) (among-told y xs)).1 new)
+    and_from (ltb y d.size) (not (list_any (λ z. eqb z y) xs)) (lt-ltb y d.size below)
+    ((Decides-not (list_any (λ z. eqb z y) xs) (among-told y xs)).1 new)
 
 taken-on : (d : Graph) (xs ys : List ℕ) (i : ℕ) → Placed (length (xs ++ ys)) d (at (xs ++ ys)) → misplaced_from d.size xs i ys ≡ None
 unfolding misplaced_from
@@ -119,8 +113,8 @@ taken-on d xs (y ∷ ys) i l =
 no_places : (d : Graph) → Placed 0 d (at [])
 no_places d = record { inside = λ k h. absurd (omega arith); apart = λ k l h. absurd (omega arith) }
 
-pub layout-told : LayoutTold
-layout-told = record { placed = λ d places. placed_on d [] places 0 (no_places d); taken = λ d places. taken-on d [] places 0 }
+pub layout_told : LayoutTold
+layout_told = record { placed = λ d places. placed_on d [] places 0 (no_places d); taken = λ d places. taken-on d [] places 0 }
 
 pub placed_from : (d : Graph) (size : ℕ) (places : List ℕ) → d.size ≡ size → misplaced_from size [] 0 places ≡ None → Placed (length places) d (at places)
-placed_from d size places e n = layout-told.placed d places (ap (λ s. misplaced_from s [] 0 places) e ∙ n)
+placed_from d size places e n = layout_told.placed d places (ap (λ s. misplaced_from s [] 0 places) e ∙ n)

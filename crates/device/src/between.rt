@@ -1,22 +1,36 @@
 //! Shortest ways between any two places.
-ghost use Rattle.std.specs.Prelude.{◌≡◌};
+ghost use Rattle.std.specs.Prelude.{◌≡◌, ◌<◌};
 ghost use Rattle.device.specs.Board.{graph_of};
-ghost use Rattle.device.specs.Distances.{AllGrown, apart};
+ghost use Rattle.device.specs.Coupling.{Graph};
+ghost use Rattle.device.specs.Distances.{AllGrown, Nearer, TreeFrom, apart, hop_at, onward};
 
 use crate::device::Device;
-use crate::tree::{UNREACHED, grow};
+use crate::hop::Hop;
+use crate::tree::grow;
 use crate::ways::Ways;
+use std::array;
 
 impl Ways {
-    /// How far two places are apart.
+    /// The hop from b on the shortest way to a, if one leads there.
+    fn hop(&self, a: usize, b: usize) -> Option<Hop>
+        ensures { result ≡ hop_at self.now a b }
+    {
+        *self.hops.get(a)?.get(b)?
+    }
+
+    /// How far two places are apart: 255, which is farther than any, where no way leads.
     pub fn distance(&self, a: usize, b: usize) -> u8
         ensures { result ≡ apart self.now a b }
     {
-        if a < self.size && b < self.size {
-            self.distance[a][b]
-        } else {
-            UNREACHED
-        }
+        self.hop(a, b).map_or(u8::MAX, |hop| hop.distance)
+    }
+
+    /// The next place on the way from b to a, one step nearer, or a itself from a; 0 where no way leads.
+    pub fn toward(&self, a: usize, b: usize) -> u8
+        ensures value { result ≡ onward self.now a b }
+        ensures nearer { (d : Graph) → AllGrown d self.now → 0 < apart self.now a b → apart self.now a b < 255 → Nearer d self.now a b result }
+    {
+        self.hop(a, b).map_or(0, |hop| hop.toward)
     }
 }
 
@@ -24,17 +38,16 @@ impl Ways {
 pub fn all_ways(device: &Device) -> Ways
     ensures { AllGrown (graph_of device.now) result }
 {
-    let mut distance = [[UNREACHED; 16]; 16];
-    let mut toward = [[0; 16]; 16];
-    for root in 0..device.size {
-        let tree = grow(device, root);
-        let (far, up) = (tree.distance, tree.toward);
-        distance[root] = far;
-        toward[root] = up;
-    }
-    Ways {
-        size: device.size,
-        distance,
-        toward,
-    }
+    let hops = array::from_fn(
+        |root|
+            ensures { TreeFrom (graph_of device.exit.now) root result }
+        {
+            if root < device.size {
+                grow(device, root).hops
+            } else {
+                [None; 16]
+            }
+        },
+    );
+    Ways { hops }
 }

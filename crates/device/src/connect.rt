@@ -3,9 +3,11 @@ ghost use Rattle.std.specs.Prelude.{◌≡◌, ◌<◌, length, Ok, Err, slice_i
 ghost use Rattle.device.specs.Board.{graph_of};
 ghost use Rattle.device.specs.Connect.{CutOffTells, Even, FirstNot, Shows};
 ghost use Rattle.device.specs.Coupling.{Connected};
+ghost use Rattle.device.specs.Hops.{distances};
 
 use crate::device::Device;
-use crate::tree::{Tree, UNREACHED, grow};
+use crate::hop::Hop;
+use crate::tree::grow;
 
 /// Why a device is not connected: the first pair of places that shows it.
 #[derive(Clone, Copy, PartialEq, Eq, Debug)]
@@ -20,25 +22,14 @@ pub enum Fault {
 fn first_uneven(device: &Device, a: usize) -> Option<usize>
     ensures { FirstNot (λ b. (graph_of device.now).joined a b ≡ (graph_of device.now).joined b a) device.now.size result }
 {
-    for b in 0..device.size {
-        if device.joins(a, b) != device.joins(b, a) {
-            return Some(b);
-        }
-    }
-    None
+    (0..device.size).find(|b| device.joins(a, *b) != device.joins(*b, a))
 }
 
-/// The first place that a tree does not reach.
-fn first_unreached(device: &Device, tree: &Tree) -> Option<usize>
-    requires { length tree.now.distance ≡ 16 }
-    ensures { FirstNot (λ b. slice_index tree.now.distance b < 255) device.now.size result }
+/// The first place that is not reached.
+fn first_unreached(hops: &[Option<Hop>]) -> Option<usize>
+    ensures { FirstNot (λ b. slice_index (distances hops.now) b < 255) (length hops.now) result }
 {
-    for place in 0..device.size {
-        if tree.distance[place] == UNREACHED {
-            return Some(place);
-        }
-    }
-    None
+    hops.iter().position(Option::is_none)
 }
 
 /// Every wire leads both ways.
@@ -60,7 +51,7 @@ fn reaching(device: &Device) -> Result<(), Fault>
 {
     for a in 0..device.size {
         let tree = grow(device, a);
-        if let Some(b) = first_unreached(device, &tree) {
+        if let Some(b) = first_unreached(&tree.hops[..device.size]) {
             return Err(Fault::Apart(a, b));
         }
     }
@@ -76,6 +67,7 @@ pub fn connected(device: &Device) -> Result<(), Fault>
 }
 
 /// A device that shows a fault at a place is not connected, and shows none at another.
+#[tactic(auto, using(crate::proofs::Pairs::cut_off_tells))]
 pub fn cut_off_stands() -> u8
     ensures { CutOffTells }
 {

@@ -1,9 +1,10 @@
 //! Devices made from a table of wires, and asked about their places.
-ghost use Rattle.std.specs.Prelude.{◌≡◌, ℕ, ◌+◌, ◌*◌, ◌<◌, ◌≤◌, false, length, ◌==◌, slice_index, slice_index_or};
+ghost use Rattle.std.specs.Prelude.{◌≡◌, ℕ, ◌*◌, ◌<◌, ◌≤◌, false, length, slice_index_or};
 ghost use Rattle.device.specs.Board.{graph_of};
 ghost use Rattle.device.specs.Coupling.{graph_in};
 
 use crate::device::Device;
+use std::array;
 
 impl Device {
     /// Whether there is a wire from one place to another.
@@ -17,14 +18,10 @@ impl Device {
 /// The wires from one place.
 fn row(size: usize, joined: &[u8], a: usize) -> [bool; 16]
     requires small { size ≤ 16 }
-    requires long { a * size + size ≤ length joined.now }
-    ensures { (b : ℕ) → b < size → slice_index_or result b false ≡ (slice_index joined.now (a * size + b) == 1) }
+    requires long { length joined.now ≡ size * size }
+    ensures { (b : ℕ) → b < 16 → slice_index_or result b false ≡ (graph_in size joined.now).joined a b }
 {
-    let mut row = [false; 16];
-    for b in 0..size {
-        row[b] = joined[a * size + b] == 1;
-    }
-    row
+    array::from_fn(|b| a < size && b < size && joined[a * size + b] == 1)
 }
 
 /// The device that a table of noughts and ones says, row by row.
@@ -34,8 +31,8 @@ pub fn device_from(size: usize, joined: &[u8]) -> Device
     ensures { graph_of result ≡ graph_in size joined.now }
 {
     let mut table = [[false; 16]; 16];
-    for a in 0..size {
-        table[a] = row(size, joined, a);
+    for (a, wires) in table.iter_mut().enumerate() {
+        *wires = row(size, joined, a);
     }
     Device {
         size,

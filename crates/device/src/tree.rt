@@ -1,33 +1,37 @@
 //! Shortest ways from a root.
-ghost use Rattle.std.specs.Prelude.{◌≡◌, ◌+◌, ◌<◌, slice_index};
+ghost use Rattle.std.specs.Prelude.{◌≡◌, ℕ, ◌+◌, ◌<◌, None, slice_index, slice_index_or};
 ghost use Rattle.device.specs.Board.{graph_of};
+ghost use Rattle.device.specs.Hops.{IsTree, far, distances, nexts};
 ghost use Rattle.device.specs.Trees.{Grown, Spread, Closed, Shut};
 
 use crate::device::Device;
+use crate::hop::Hop;
 
-pub const UNREACHED: u8 = 255;
-
-/// How far each place is from the root, and the next place on the way to it.
+/// The ways from the root to each place, none to one that is not reached.
 #[derive(Clone, Copy)]
 pub struct Tree {
     pub root: usize,
-    pub distance: [u8; 16],
-    pub toward: [u8; 16],
+    pub hops: [Option<Hop>; 16],
 }
 
-/// All places joined to x are reached.
-fn spread(device: &Device, tree: &mut Tree, x: usize)
+// A struct of device and tree with `IsTree` as its ghost field is no shorter: each function would have to say that the device stays.
+
+/// All places joined to x are reached, which is itself `distance` steps from the root.
+fn spread(device: &Device, tree: &mut Tree, x: usize, distance: u8)
     requires place { x < device.now.size }
-    requires near { slice_index tree.old.distance x < 255 }
-    requires was_grown { Grown (graph_of device.now) tree.old.root tree.old.distance tree.old.toward }
-    ensures grown { Grown (graph_of device.now) tree.new.root tree.new.distance tree.new.toward }
+    requires near { slice_index (distances tree.old.hops) x ≡ distance }
+    requires low { distance < 16 }
+    requires was_grown { IsTree (graph_of device.now) tree.old }
+    ensures grown { IsTree (graph_of device.now) tree.new }
     ensures root { tree.new.root ≡ tree.old.root }
-    ensures spread { Spread (graph_of device.now) tree.old.distance tree.new.distance x device.now.size }
+    ensures spread { Spread (graph_of device.now) (distances tree.old.hops) (distances tree.new.hops) x device.now.size }
 {
-    for y in 0..device.size {
-        if tree.distance[y] == UNREACHED && device.joins(x, y) {
-            tree.distance[y] = tree.distance[x] + 1;
-            tree.toward[y] = x as u8;
+    for (y, hop) in tree.hops.iter_mut().enumerate() {
+        if device.joins(x, y) && hop.is_none() {
+            *hop = Some(Hop {
+                distance: distance + 1,
+                toward: x as u8,
+            });
         }
     }
 }
@@ -35,15 +39,18 @@ fn spread(device: &Device, tree: &mut Tree, x: usize)
 /// All places joined to one of a level are reached.
 fn sweep(device: &Device, tree: &mut Tree, level: u8)
     requires low { level < 16 }
-    requires was_grown { Grown (graph_of device.now) tree.old.root tree.old.distance tree.old.toward }
-    requires was_closed { Closed (graph_of device.now) tree.old.distance level }
-    ensures grown { Grown (graph_of device.now) tree.new.root tree.new.distance tree.new.toward }
+    requires was_grown { IsTree (graph_of device.now) tree.old }
+    requires was_closed { Closed (graph_of device.now) (distances tree.old.hops) level }
+    ensures grown { IsTree (graph_of device.now) tree.new }
     ensures root { tree.new.root ≡ tree.old.root }
-    ensures closed { Closed (graph_of device.now) tree.new.distance (level + 1) }
+    ensures closed { Closed (graph_of device.now) (distances tree.new.hops) (level + 1) }
 {
+    // By number, since `spread` writes to the tree that an iterator would lend.
     for x in 0..device.size {
-        if tree.distance[x] == level {
-            spread(device, tree, x);
+        if let Some(hop) = tree.hops[x]
+            && hop.distance == level
+        {
+            spread(device, tree, x, level);
         }
     }
 }
@@ -52,15 +59,18 @@ fn sweep(device: &Device, tree: &mut Tree, level: u8)
 pub fn grow(device: &Device, root: usize) -> Tree
     requires { root < device.now.size }
     ensures root { result.root ≡ root }
-    ensures grown { Grown (graph_of device.now) root result.distance result.toward }
-    ensures shut { Shut (graph_of device.now) result.distance }
+    ensures grown { Grown (graph_of device.now) root (distances result.hops) (nexts result.hops) }
+    ensures within { (k : ℕ) → far (slice_index_or result.hops k None) < 255 → k < device.now.size }
+    ensures shut { Shut (graph_of device.now) (distances result.hops) }
 {
     let mut tree = Tree {
         root,
-        distance: [UNREACHED; 16],
-        toward: [0; 16],
+        hops: [None; 16],
     };
-    tree.distance[root] = 0;
+    tree.hops[root] = Some(Hop {
+        distance: 0,
+        toward: root as u8,
+    });
     for level in 0..16 {
         sweep(device, &mut tree, level);
     }

@@ -1,11 +1,8 @@
 //! The trees of shortest ways from all places.
-ghost use Rattle.std.specs.Prelude.{◌≤◌};
+use crate::hop::Hop;
 
-/// Row a is the tree from place a: how far each place is from a, and the next place on the way to a.
+/// Row a has the hops of the tree from place a, none where no way leads.
 #[derive(Clone, Copy)]
 pub struct Ways {
-    pub size: usize,
-    pub distance: [[u8; 16]; 16],
-    pub toward: [[u8; 16]; 16],
-    ghost small: { size ≤ 16 },
+    pub hops: [[Option<Hop>; 16]; 16],
 }

@@ -73,17 +73,14 @@ fn fault_of(reader: &Reader, t: Token) -> Fault
 fn is_digit(b: u8) -> bool
     ensures { result ≡ digit b }
 {
-    b'0' <= b && b <= b'9'
+    b.is_ascii_digit()
 }
 
 /// Whether a byte ends a word before it.
 fn ends_word(b: u8) -> bool
     ensures { result ≡ not (in_word (class b)) }
 {
-    match class_of(b) {
-        Class::Alphanumeric => false,
-        _ => true,
-    }
+    !matches!(class_of(b), Class::Alphanumeric)
 }
 
 /// Whether a word of digits alone begins these bytes.

@@ -27,10 +27,8 @@ fn spelled(t: Token) -> Option<&'static str> {
 }
 
 fn put_words(heap: Global, signs: &[Token], items: &mut Vec<String>) -> Result<(), AllocError> {
-    for t in signs {
-        if let Some(word) = spelled(*t) {
-            items.push(String::from_str(heap, word)?)?;
-        }
+    for word in signs.iter().filter_map(|t| spelled(*t)) {
+        items.push(String::from_str(heap, word)?)?;
     }
     Ok(())
 }
@@ -44,23 +42,19 @@ fn run(heap: Global, first: u8, last: u8) -> Result<String, AllocError> {
     }
 }
 
-fn put_numbers(heap: Global, signs: &[Token], items: &mut Vec<String>) -> Result<(), AllocError> {
-    let mut open: Option<(u8, u8)> = None;
-    for t in signs {
-        let Token::Number(n) = *t else {
-            continue;
-        };
-        open = match open {
-            Some((first, last)) if last as u16 + 1 == n as u16 => Some((first, n)),
-            Some((first, last)) => {
-                items.push(run(heap, first, last)?)?;
-                Some((n, n))
-            }
-            None => Some((n, n)),
-        };
+fn number(t: Token) -> Option<u8> {
+    match t {
+        Token::Number(n) => Some(n),
+        _ => None,
     }
-    if let Some((first, last)) = open {
-        items.push(run(heap, first, last)?)?;
+}
+
+fn put_numbers(heap: Global, signs: &[Token], items: &mut Vec<String>) -> Result<(), AllocError> {
+    let numbers: Vec<u8> = signs.iter().filter_map(|t| number(*t)).collect(heap)?;
+    for next in numbers.chunk_by(|a, b| a.checked_add(1) == Some(*b)) {
+        if let (Some(first), Some(last)) = (next.first(), next.last()) {
+            items.push(run(heap, *first, *last)?)?;
+        }
     }
     Ok(())
 }

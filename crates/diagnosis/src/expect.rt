@@ -41,13 +41,11 @@ fn every_sign(heap: Global) -> Result<Vec<Token>, AllocError>
 fn accepted(heap: Global, reader: &Reader, signs: &[Token]) -> Result<Vec<Token>, AllocError>
     ensures { IfOk result (λ v. v.items ≡ filter (accepts (view reader.now)) signs.now) }
 {
-    let mut out = Vec::new(heap);
-    for t in signs {
-        if reader.accepts(*t) {
-            out.push(*t)?;
-        }
-    }
-    Ok(out)
+    signs
+        .iter()
+        .copied()
+        .filter(|t| reader.accepts(*t))
+        .collect(heap)
 }
 
 /// All signs that could stand at a place of a text.

@@ -2,8 +2,9 @@
 ghost use Rattle.std.specs.Prelude.{◌≡◌, take, IfOk};
 ghost use Rattle.diagnosis.specs.Front.{Reads};
 
+use circuit::Failure;
 use std::alloc::{AllocError, Global};
-use text::{ReadError, Reader, Token, read_signs};
+use text::{Reader, Token, read_signs};
 
 /// The signs before a place, all of them if there are not so many.
 pub fn before(signs: &[Token], place: u64) -> &[Token]
@@ -18,7 +19,7 @@ pub fn reader_after(heap: Global, signs: &[Token]) -> Result<Option<Reader>, All
 {
     match read_signs(heap, signs) {
         Ok(reader) => Ok(Some(reader)),
-        Err(ReadError::Memory) => Err(AllocError),
-        Err(ReadError::Refused(_)) => Ok(None),
+        Err(Failure::Memory) => Err(AllocError),
+        Err(Failure::Refused(_)) => Ok(None),
     }
 }

@@ -114,13 +114,13 @@ fields e = (ap (λ (x : Amplitude). x.one) e, ap (λ (x : Amplitude). x.w) e, ap
 
 module _ (a : Amplitude) where
   still : (k : ℕ) → k < 7 → turned (suc k) a ≡ a → a ≡ nought
-  still zero h e = let f = fields e in let o = f.0 in let p = f.1 in let q = f.2 in let r = f.3 in parts (omega (arith, ints))
-  still (suc zero) h e = let f = fields e in let o = f.0 in let p = f.1 in let q = f.2 in let r = f.3 in parts (omega (arith, ints))
-  still (suc (suc zero)) h e = let f = fields e in let o = f.0 in let p = f.1 in let q = f.2 in let r = f.3 in parts (omega (arith, ints))
-  still (suc (suc (suc zero))) h e = let f = fields e in let o = f.0 in let p = f.1 in let q = f.2 in let r = f.3 in parts (omega (arith, ints))
-  still (suc (suc (suc (suc zero)))) h e = let f = fields e in let o = f.0 in let p = f.1 in let q = f.2 in let r = f.3 in parts (omega (arith, ints))
-  still (suc (suc (suc (suc (suc zero))))) h e = let f = fields e in let o = f.0 in let p = f.1 in let q = f.2 in let r = f.3 in parts (omega (arith, ints))
-  still (suc (suc (suc (suc (suc (suc zero)))))) h e = let f = fields e in let o = f.0 in let p = f.1 in let q = f.2 in let r = f.3 in parts (omega (arith, ints))
+  still zero h e = let f = fields e in parts (omega (arith, ints))
+  still (suc zero) h e = let f = fields e in parts (omega (arith, ints))
+  still (suc (suc zero)) h e = let f = fields e in parts (omega (arith, ints))
+  still (suc (suc (suc zero))) h e = let f = fields e in parts (omega (arith, ints))
+  still (suc (suc (suc (suc zero)))) h e = let f = fields e in parts (omega (arith, ints))
+  still (suc (suc (suc (suc (suc zero))))) h e = let f = fields e in parts (omega (arith, ints))
+  still (suc (suc (suc (suc (suc (suc zero)))))) h e = let f = fields e in parts (omega (arith, ints))
   still (suc (suc (suc (suc (suc (suc (suc k))))))) h e = absurd (omega arith)
 
 -- an amplitude that is not nought tells the turn

@@ -2,9 +2,9 @@ pub mod Local
 pub mod Cover
 pub mod Basis
 pub mod Across
-pub mod Scanning
-pub mod Rowwise
 pub mod Refusing
+pub mod Scanning
+pub mod Turning
+pub mod Pairing
+pub mod Turns
 pub mod One
-pub mod Tests
-pub mod Join

@@ -1,33 +1,21 @@
 -- There is one right answer.
-use Rattle.std.proofs.Common.{◌≡◌, ℕ, ◌<◌, ◌⊎◌, List, Some, None, Option, sym, refl, ap, ◌∙◌, ap₂, inl, inr, arith}
-use native.Mathlib.Decide.{dec_lt}
+use Rattle.std.proofs.Common.{◌≡◌, ℕ, ◌⊎◌, List, Some, None, Option, Ok, Err, Result, sym, refl, ap, ◌∙◌, ap₂, inl, inr, arith}
 use Rattle.circuit.specs.declared.gate.Gate.{Gate}
 use Rattle.circuit.specs.declared.refusal.Refusal.{Refusal}
 use Rattle.circuit.specs.Code.{gates_in}
 use Rattle.circuit.specs.Circuit.{AllFit}
 use Rattle.equivalence.specs.declared.comparison.Comparison.{Comparison}
-use Rattle.equivalence.specs.declared.comparison.Comparison.TheVariants.{Alike, Different, Refused}
-use Rattle.equivalence.specs.Compare.{refusal, refusal_of_numbers, refusal_in_numbers, Earlier, FirstPair, Compares, OneAnswer, OneAnswerInNumbers}
-use Rattle.circuit.proofs.Unrefused.{or-none}
+use Rattle.equivalence.specs.declared.comparison.Comparison.TheVariants.{Alike, Different}
+use Rattle.equivalence.specs.Compare.{refusal, refusal_in_numbers, Earlier, FirstPair, Answers, Compares, OneAnswer, OneAnswerInNumbers}
 use Rattle.equivalence.proofs.Refusing.{unrefused}
-use Rattle.equivalence.proofs.Rowwise.{one-turn}
+use Rattle.equivalence.proofs.Turns.{one-turn}
 
 -- pairs go in one order
 earlier_on : (a f a' f' a'' f'' : ℕ) → Earlier a f a' f' → Earlier a' f' a'' f'' → Earlier a f a'' f''
-earlier_on a f a' f' a'' f'' (inl h) (inl h') = inl (omega arith)
-earlier_on a f a' f' a'' f'' (inl h) (inr h') = let e = h'.0 in inl (omega arith)
-earlier_on a f a' f' a'' f'' (inr h) (inl h') = let e = h.0 in inl (omega arith)
-earlier_on a f a' f' a'' f'' (inr h) (inr h') = let l = h.1 in let l' = h'.1 in inr (h.0 ∙ h'.0, omega arith)
+earlier_on a f a' f' a'' f'' h h' = grind arith
 
 in_order : (a f a' f' : ℕ) → Earlier a f a' f' ⊎ (Earlier a' f' a f ⊎ ((a ≡ a') × (f ≡ f')))
-in_order a f a' f' = go (dec_lt a a') (dec_lt a' a) (dec_lt f f') (dec_lt f' f)
-  where
-    go : Dec (a < a') → Dec (a' < a) → Dec (f < f') → Dec (f' < f) → Earlier a f a' f' ⊎ (Earlier a' f' a f ⊎ ((a ≡ a') × (f ≡ f')))
-    go (yes h) _ _ _ = inl (inl h)
-    go (no _) (yes h) _ _ = inr (inl (inl h))
-    go (no p) (no q) (yes h) _ = inl (inr (omega arith, h))
-    go (no p) (no q) (no _) (yes h) = inr (inl (inr (omega arith, h)))
-    go (no p) (no q) (no r) (no s) = inr (inr (omega arith, omega arith))
+in_order a f a' f' = grind arith
 
 module _ (n : ℕ) (c d : List Gate) where
   not_earlier : (a f a' f' : ℕ) → FirstPair n c d a f → FirstPair n c d a' f' → Earlier a f a' f' → ⊥
@@ -42,20 +30,17 @@ module _ (n : ℕ) (c d : List Gate) where
       go (inr (inl e)) = absurd (not_earlier a' f' a f q p e)
       go (inr (inr e)) = ap₂ Different e.0 e.1
 
-  one : (o : Option Refusal) → (o ≡ None → AllFit n d) → (r r' : Comparison) → Compares o n c d r → Compares o n c d r' → r ≡ r'
+  one_of : AllFit n d → (r r' : Comparison) → Answers n c d r → Answers n c d r' → r ≡ r'
+  one_of fit (Alike t) (Alike u) p q = let l = p.0 in let l' = q.0 in let e = one-turn n c d t u fit p.1 q.1 in let f : t ≡ u = omega arith in ap Alike f
+  one_of fit (Alike t) (Different a f) p q = absurd (q.apart (record { turn = t; same = p.1 }))
+  one_of fit (Different a f) (Alike t) p q = absurd (p.apart (record { turn = t; same = q.1 }))
+  one_of fit (Different a f) (Different a' f') p q = one_pair a f a' f' p q
+
+  one : (o : Option Refusal) → (o ≡ None → AllFit n d) → (r r' : Result Comparison Refusal) → Compares o n c d r → Compares o n c d r' → r ≡ r'
   one (Some f) fit r r' p q = p ∙ sym q
-  one None fit (Alike t) (Alike u) p q =
-      let l = p.0 in
-      let l' = q.0 in
-      let e = one-turn n c d t u (fit refl) p.1 q.1 in
-      let f : t ≡ u = omega arith in
-      ap Alike f
-  one None fit (Alike t) (Different a f) p q = absurd (q.apart (record { turn = t; same = p.1 }))
-  one None fit (Different a f) (Alike t) p q = absurd (p.apart (record { turn = t; same = q.1 }))
-  one None fit (Different a f) (Different a' f') p q = one_pair a f a' f' p q
-  one None fit (Alike t) (Refused g) p q = absurd q
-  one None fit (Different a f) (Refused g) p q = absurd q
-  one None fit (Refused f) r' p q = absurd p
+  one None fit (Ok r) (Ok r') p q = ap Ok (one_of (fit refl) r r' p q)
+  one None fit (Ok r) (Err f) p q = absurd q
+  one None fit (Err f) r' p q = absurd p
 
 pub one_answer : OneAnswer
 one_answer n c d r r' p q = one n c d (refusal n c d) (λ e. (unrefused n c d e).fit_d) r r' p q
@@ -63,4 +48,4 @@ one_answer n c d r r' p q = one n c d (refusal n c d) (λ e. (unrefused n c d e)
 pub one_answer_in_numbers : OneAnswerInNumbers
 one_answer_in_numbers n c d r r' p q =
     one n (gates_in c) (gates_in d) (refusal_in_numbers n c d)
-    (λ e. (unrefused n (gates_in c) (gates_in d) (or-none (refusal_of_numbers n c d) (refusal n (gates_in c) (gates_in d)) e).1).fit_d) r r' p q
+    (λ e. (unrefused n (gates_in c) (gates_in d) (grind arith)).fit_d) r r' p q

@@ -1,5 +1,4 @@
 //! What comparing two circuits says.
-use circuit::Refusal;
 
 /// How two circuits stand to each other.
 #[derive(Clone, Copy, PartialEq, Eq, Debug)]
@@ -8,6 +7,4 @@ pub enum Comparison {
     Alike { turn: u8 },
     /// They are not, and the first pair of rows that shows it: the amplitude at a row, begun from another.
     Different { row: usize, from: usize },
-    /// They were not compared.
-    Refused(Refusal),
 }

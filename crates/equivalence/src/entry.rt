@@ -1,48 +1,45 @@
 //! The entry on circuits in numbers.
-ghost use Rattle.std.specs.Prelude.{◌≡◌};
+ghost use Rattle.std.specs.Prelude.{◌≡◌, ◌%◌, ◌≤◌, length};
 ghost use Rattle.circuit.specs.Code.{gates_in};
+ghost use Rattle.circuit.specs.Refusals.{Checked};
 ghost use Rattle.equivalence.specs.Compare.{Compares, refusal_in_numbers, refusal_of_numbers};
 
+use crate::checks::{MOST_GATES, check_length, check_numbers};
 use crate::circuits::compare_circuits;
 use crate::comparison::Comparison;
-use circuit::{Gate, Refusal, decode, first_fault};
+use circuit::{Gate, Refusal, Register, decode};
 
-/// The first refusal that applies to two circuits in numbers, before their gates are looked at.
-fn first_refusal_of_numbers(qubits: u64, c: &[u8], d: &[u8]) -> Option<Refusal>
-    ensures { result ≡ refusal_of_numbers qubits c.now d.now }
+/// That no refusal applies to two circuits in numbers before their gates are looked at.
+fn check(qubits: u64, c: &[u8], d: &[u8]) -> Result<(), Refusal>
+    ensures { Checked (refusal_of_numbers qubits c.now d.now) result }
 {
-    if qubits < 1 || qubits > 8 {
-        return Some(Refusal::Qubits(0));
-    }
-    if c.len() % 4 != 0 || c.len() > 4096 {
-        return Some(Refusal::Length(0));
-    }
-    if d.len() % 4 != 0 || d.len() > 4096 {
-        return Some(Refusal::Length(1));
-    }
-    if let Some(place) = first_fault(c) {
-        return Some(Refusal::Number(place as u64));
-    }
-    if let Some(place) = first_fault(d) {
-        return Some(Refusal::Number(place as u64));
-    }
-    None
+    Register::try_from(qubits)?;
+    check_length(0, c.len(), 4)?;
+    check_length(1, d.len(), 4)?;
+    check_numbers(c)?;
+    check_numbers(d)
+}
+
+/// The gates that the numbers are, in the room.
+fn decode_in<'a>(room: &'a mut [Gate; MOST_GATES], numbers: &[u8]) -> &'a [Gate]
+    requires whole { length numbers.now % 4 ≡ 0 }
+    requires short { length numbers.now ≤ 4096 }
+    ensures { result.now ≡ gates_in numbers.now }
+{
+    let gates = &mut room[..numbers.len() / 4];
+    decode(numbers, gates);
+    gates
 }
 
 /// Whether two circuits in numbers, four a gate, are the same up to a global phase. It allocates nothing.
-pub fn compare(qubits: u64, c: &[u8], d: &[u8]) -> Comparison
+pub fn compare(qubits: u64, c: &[u8], d: &[u8]) -> Result<Comparison, Refusal>
     ensures { Compares (refusal_in_numbers qubits c.now d.now) qubits (gates_in c.now) (gates_in d.now) result }
 {
-    match first_refusal_of_numbers(qubits, c, d) {
-        Some(refusal) => Comparison::Refused(refusal),
-        None => {
-            let mut c_room = [Gate::Not(0); 1024];
-            let mut d_room = [Gate::Not(0); 1024];
-            let c_gates = &mut c_room[..c.len() / 4];
-            let d_gates = &mut d_room[..d.len() / 4];
-            decode(c, c_gates);
-            decode(d, d_gates);
-            compare_circuits(qubits, c_gates, d_gates)
-        }
-    }
+    check(qubits, c, d)?;
+    // Two rooms for the most gates, since nothing is allocated.
+    let mut c_room = [Gate::Not(0); MOST_GATES];
+    let mut d_room = [Gate::Not(0); MOST_GATES];
+    let c_gates = decode_in(&mut c_room, c);
+    let d_gates = decode_in(&mut d_room, d);
+    compare_circuits(qubits, c_gates, d_gates)
 }

@@ -1,7 +1,7 @@
 -- The device and the layout that the lines behind the text of a job give.
 use Rattle.std.specs.Prelude.{◌≡◌, ℕ, ◌+◌, ◌*◌, cond, ◌&&◌, List, [], ◌∷◌, ◌++◌, replicate, Some, None, Ok, Err, vec_items, Option, Result, ◌==◌, nat_lt, slice_set}
 use Rattle.text.specs.declared.token.Token.{Token}
-use Rattle.text.specs.declared.token.Token.TheVariants.{Turn, Of, Mix, Flip, If, Device, Joined, Lay, Undo, Times, Block, Call, On, Number, Open, Close, Semicolon, Other}
+use Rattle.text.specs.declared.token.Token.TheVariants.{Device, Joined, Lay}
 use Rattle.text.specs.Cut.{cut}
 use Rattle.text.specs.Move.{number_in}
 use Rattle.job.specs.declared.error.PlanError.{PlanError}
@@ -75,21 +75,7 @@ abbrev pub does : Token → List ℕ → Known → Option Known
 does Device ns s = on_device ns s
 does Joined ns s = on_joined ns s
 does Lay ns s = on_lay ns s
-does Turn ns s = None
-does Of ns s = None
-does Mix ns s = None
-does Flip ns s = None
-does If ns s = None
-does Undo ns s = None
-does Times ns s = None
-does Block ns s = None
-does Call ns s = None
-does On ns s = None
-does (Number n) ns s = None
-does Open ns s = None
-does Close ns s = None
-does Semicolon ns s = None
-does Other ns s = None
+does _ ns s = None
 
 -- a line without signs is passed over
 abbrev pub says : List Token → Known → Option Known
@@ -128,7 +114,7 @@ plan_of bs = ended (follow 0 (lines [] bs) nothing)
 
 -- what a plan holds
 abbrev pub whole : Plan → Table × List ℕ
-whole p = (record { size = p.size; joined = vec_items p.joined }, vec_items p.layout)
+whole p = (record { size = p.device.size; joined = vec_items p.device.joined }, vec_items p.layout)
 
 -- a reader answers just that, unless memory fails
 abbrev pub Answers : Result Plan PlanError → Result (Table × List ℕ) PlanError → Type 0

@@ -10,5 +10,6 @@ mod split;
 mod wiring;
 
 pub use error::PlanError;
+pub use grid::Grid;
 pub use plan::{Plan, read_plan};
 pub use split::text_length;

@@ -3,13 +3,13 @@ ghost use Rattle.job.specs.Plan.{plan_of, Answers};
 
 use crate::builder::Builder;
 use crate::error::PlanError;
+use crate::grid::Grid;
 use std::alloc::Global;
 
-/// A device, with a 1 for each two places that are joined in `size` rows of `size` numbers, and the place of each qubit.
+/// A device, and the place of each qubit.
 #[derive(Drop)]
 pub struct Plan {
-    pub size: u8,
-    pub joined: Vec<u8>,
+    pub device: Grid,
     pub layout: Vec<u8>,
 }
 
@@ -17,16 +17,9 @@ pub struct Plan {
 pub fn read_plan(heap: Global, lines: &[u8]) -> Result<Plan, PlanError>
     ensures { Answers result (plan_of lines.now) }
 {
-    let mut builder = Builder::new();
-    let mut start = 0;
-    let mut line = 0;
-    for (i, b) in lines.iter().enumerate() {
-        if *b == b'\n' {
-            builder.take_line(heap, line, &lines[start..i])?;
-            start = i + 1;
-            line += 1;
-        }
+    let mut builder = Builder::new(heap);
+    for (at, line) in lines.split(|b| *b == b'\n').enumerate() {
+        builder.take_line(at, line)?;
     }
-    builder.take_line(heap, line, &lines[start..lines.len()])?;
     builder.finish()
 }

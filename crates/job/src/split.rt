@@ -5,37 +5,27 @@ ghost use Rattle.job.specs.Split.{space, ends_word, begins, device_line, text_le
 fn is_space(b: u8) -> bool
     ensures { result ≡ space b }
 {
-    b == b' ' || b == b'\t' || b == b'\r'
+    matches!(b, b' ' | b'\t' | b'\r')
 }
 
 fn ends_word(bytes: &[u8]) -> bool
     ensures { result ≡ ends_word bytes.now }
 {
-    match bytes.first() {
-        Some(b) => !b.is_ascii_alphanumeric(),
-        None => true,
-    }
+    bytes.first().is_none_or(|b| !b.is_ascii_alphanumeric())
 }
 
 fn begins_device(bytes: &[u8]) -> bool
     ensures { result ≡ begins (codes "device") bytes.now }
 {
-    match bytes.strip_prefix(b"device") {
-        Some(rest) => ends_word(rest),
-        None => false,
-    }
+    bytes.strip_prefix(b"device").is_some_and(ends_word)
 }
 
 /// Whether the first word of a line, which may go on behind it, is `device`.
 fn is_device_line(bytes: &[u8]) -> bool
     ensures { result ≡ device_line bytes.now }
 {
-    for (i, b) in bytes.iter().enumerate() {
-        if !is_space(*b) {
-            return begins_device(&bytes[i..]);
-        }
-    }
-    false
+    let spaces = bytes.iter().take_while(|b| is_space(**b)).count();
+    begins_device(&bytes[spaces..])
 }
 
 /// How many bytes of a job are its text: those before the first line that begins with `device`.
@@ -43,6 +33,7 @@ pub fn text_length(job: &[u8]) -> usize
     ensures exact { result ≡ text_length true job.now }
     ensures within { result ≤ length job.now }
 {
+    // Whether a line starts is known from the byte before, so this is no plainer by `find` over a range.
     let mut starts = true;
     for (i, b) in job.iter().enumerate() {
         if starts && is_device_line(&job[i..]) {

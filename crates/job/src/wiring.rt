@@ -8,7 +8,7 @@ use std::alloc::{AllocError, Global};
 
 impl Grid {
     /// So many places, none joined.
-    pub fn new(heap: Global, size: u8) -> Result<Grid, AllocError>
+    pub(crate) fn new(heap: Global, size: u8) -> Result<Grid, AllocError>
         ensures { IfOk result (λ g. table g ≡ apart size) }
     {
         let joined = vec![in heap; 0; size as usize * size as usize]?;
@@ -16,7 +16,7 @@ impl Grid {
     }
 
     /// Joins two places, both ways.
-    pub fn join(&mut self, a: u8, b: u8)
+    pub(crate) fn join(&mut self, a: u8, b: u8)
         requires first { a < self.old.size }
         requires second { b < self.old.size }
         ensures { table self.new ≡ wired a b (table self.old) }

@@ -1,5 +1,5 @@
 mod Pieces
-mod Digits
+mod RowDigits
 mod Readings
 mod Telling
 mod Jobs

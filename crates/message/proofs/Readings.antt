@@ -2,8 +2,8 @@
 use Rattle.std.proofs.Common.{ℕ, List, Ok, Err, vec_items, refl}
 use Rattle.circuit.specs.declared.gate.Gate as gate
 use Rattle.circuit.specs.declared.refusal.Refusal.{Refusal}
-use Rattle.circuit.specs.declared.refusal.Refusal.TheVariants.{Qubits, Length, Number, Gate, Layout, Device, Room, Mixes, Text}
-use Rattle.text.specs.declared.error.ReadError.TheVariants as unread
+use Rattle.circuit.specs.declared.refusal.Refusal.TheVariants.{Text}
+use Rattle.circuit.specs.declared.failure.Failure.TheVariants as failure
 use Rattle.text.specs.declared.program.Circuit.{Circuit}
 use Rattle.text.specs.Program.{AnswersText}
 use Rattle.text.proofs.Spelt.{spells_one}
@@ -17,13 +17,6 @@ read_ok limit bytes c a =
 pub said : (limit n : ℕ) (bytes : List ℕ) (gs : List gate.Gate) → SaysOn limit bytes n gs → SaysIn limit bytes gs
 said limit n bytes gs s = (s.signs, s.spells, s.says)
 
-pub read_refused : (limit : ℕ) (bytes : List ℕ) (f : Refusal) → AnswersText limit bytes (Err (unread.Refused f)) → RefusedIn limit bytes f
-read_refused limit bytes (Qubits p) a = let t = spells_one bytes in absurd (a t.0 t.1)
-read_refused limit bytes (Length p) a = let t = spells_one bytes in absurd (a t.0 t.1)
-read_refused limit bytes (Number p) a = let t = spells_one bytes in absurd (a t.0 t.1)
-read_refused limit bytes (Gate p) a = let t = spells_one bytes in absurd (a t.0 t.1)
-read_refused limit bytes (Layout p) a = let t = spells_one bytes in absurd (a t.0 t.1)
-read_refused limit bytes (Device p) a = let t = spells_one bytes in absurd (a t.0 t.1)
-read_refused limit bytes (Room p) a = let t = spells_one bytes in absurd (a t.0 t.1)
-read_refused limit bytes (Mixes p) a = let t = spells_one bytes in absurd (a t.0 t.1)
+pub read_refused : (limit : ℕ) (bytes : List ℕ) (f : Refusal) → AnswersText limit bytes (Err (failure.Refused f)) → RefusedIn limit bytes f
 read_refused limit bytes (Text i) a = let t = spells_one bytes in (t.0, i, t.1, a t.0 t.1, refl)
+read_refused limit bytes _ a = let t = spells_one bytes in absurd (a t.0 t.1)

@@ -16,10 +16,10 @@ use Rattle.message.specs.RoundTrip.{Small, AllSmall, row, StatementSpells, State
 use Rattle.message.proofs.Figures.{number_word}
 
 pub blank-stops : Blank ≡ Alphanumeric → ⊥
-blank-stops e = let z : ◌≡◌ {A = ℕ} 0 1 = cc in omega arith
+blank-stops e = cc
 
 mark-stops : (t : Token) → Mark t ≡ Alphanumeric → ⊥
-mark-stops t e = let z : ◌≡◌ {A = ℕ} 0 1 = cc in omega arith
+mark-stops t e = cc
 
 -- letters and digits, one at least
 abbrev pub Word : List ℕ → Type 0

@@ -1,24 +1,19 @@
 -- What reading a text and comparing two circuits tell of the bytes of two texts.
-use Rattle.std.proofs.Common.{ℕ, List, Ok, Err, Result, String, refl, subst}
-use Rattle.std.specs.declared.alloc.Global.{Global}
-use Rattle.text.specs.declared.error.ReadError.{ReadError}
-use Rattle.text.specs.declared.error.ReadError.TheVariants as unread
-use Rattle.text.specs.Program.{AnswersText}
-use Rattle.equivalence.specs.declared.comparison.Comparison.{Comparison}
+use Rattle.std.proofs.Common.{◌≡◌, ℕ, List, Ok, Err, Result, refl, sym, subst}
+use Rattle.std.specs.Result.{MatchResult}
+use Rattle.text.specs.declared.program.Circuit.{Circuit}
 use Rattle.message.specs.declared.comparing.CompareError.{CompareError}
-use Rattle.message.specs.declared.comparing.CompareError.TheVariants as error
+use Rattle.circuit.specs.declared.failure.Failure.{Failure}
+use Rattle.circuit.specs.declared.failure.Failure.TheVariants as failure
+use Rattle.text.specs.Program.{AnswersText}
 use Rattle.message.specs.declared.comparing.Side.{Side}
-use Rattle.message.specs.declared.comparing.Side.TheVariants.{First, Second}
-use Rattle.message.specs.Compared.{SideRead, on_side, Shown, Answered, Compared}
-use Rattle.message.proofs.Readings.{read_refused}
+use Rattle.message.specs.Compared.{SideRead, on_side}
+use Rattle.message.proofs.Readings.{read_ok, read_refused}
 
-pub side_error : (side : Side) (bytes : List ℕ) (e : ReadError) → AnswersText 1024 bytes (Err e) → SideRead side bytes (Err (on_side side e))
-side_error side bytes unread.Memory a = tt
-side_error side bytes (unread.Refused f) a = (refl, read_refused 1024 bytes f a)
+pub side_failure : (side : Side) (bytes : List ℕ) (e : Failure) → AnswersText 1024 bytes (Err e) → SideRead side bytes (Err (on_side side e))
+side_failure side bytes failure.Memory a = tt
+side_failure side bytes (failure.Refused f) a = (refl, read_refused 1024 bytes f a)
 
-pub compared : (first second : List ℕ) (answer : Comparison) (n : ℕ) (r : Result (String Global) CompareError) → Answered first second answer n → Shown n answer r → Compared first second r
-compared first second answer n (Ok s) a w = (answer, n, a, w)
-compared first second answer n (Err error.Memory) a w = tt
-compared first second answer n (Err (error.Text First f)) a w = absurd w
-compared first second answer n (Err (error.Text Second f)) a w = absurd w
-compared first second answer n (Err (error.Refused f)) a w = (n, subst (λ (x : Comparison). Answered first second x n) w a)
+pub side_read : (side : Side) (bytes : List ℕ) (o : Result Circuit Failure) (r : Result Circuit CompareError) → AnswersText 1024 bytes o → MatchResult o (λ c. r ≡ Ok c) (λ e. r ≡ Err (on_side side e)) → SideRead side bytes r
+side_read side bytes (Ok c) r a m = subst (SideRead side bytes) (sym m) (read_ok 1024 bytes c a)
+side_read side bytes (Err e) r a m = subst (SideRead side bytes) (sym m) (side_failure side bytes e a)

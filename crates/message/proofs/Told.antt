@@ -5,7 +5,7 @@ use Rattle.std.specs.List.{concat}
 use Rattle.circuit.specs.declared.gate.Gate.{Gate}
 use Rattle.circuit.specs.declared.gate.Gate.TheVariants.{Phase, Hadamard, Not, ControlledNot, Toffoli}
 use Rattle.text.specs.declared.token.Token.{Token}
-use Rattle.text.specs.declared.token.Token.TheVariants.{Turn, Of, Mix, Flip, If, Device, Joined, Lay, Undo, Times, Block, Call, On, Open, Close, Number, Semicolon, Other}
+use Rattle.text.specs.declared.token.Token.TheVariants.{Turn, Mix, Number, Semicolon, Other}
 use Rattle.text.specs.Move.{is}
 use Rattle.text.specs.Program.{spelt, written}
 use Rattle.text.specs.Spelling.{Stops, Spells, ends, blank}
@@ -46,24 +46,8 @@ print_spells (g ∷ gs) ps h b =
 
 -- the numbers of signs
 abbrev number : Token → ℕ
-number Turn = 0
-number Of = 0
-number Mix = 0
-number Flip = 0
-number If = 0
-number Device = 0
-number Joined = 0
-number Lay = 0
 number (Number n) = n
-number Undo = 0
-number Times = 0
-number Block = 0
-number Call = 0
-number On = 0
-number Open = 0
-number Close = 0
-number Semicolon = 0
-number Other = 0
+number _ = 0
 
 numbers : (ps : List ℕ) → map number (map Number ps) ≡ ps
 numbers [] = refl
@@ -77,24 +61,8 @@ layout-told ps qs p q e = layout-one ps qs (one-reading (layout-spells ps p) (su
 
 -- a sign that no gate is said with
 abbrev strange : Token → Bool
-strange Turn = false
-strange Of = false
-strange Mix = false
-strange Flip = false
-strange If = false
-strange Device = false
-strange Joined = false
-strange Lay = false
-strange (Number n) = false
-strange Undo = false
-strange Times = false
-strange Block = false
-strange Call = false
-strange On = false
-strange Open = false
-strange Close = false
-strange Semicolon = false
 strange Other = true
+strange _ = false
 
 -- the signs before the first such, and those from it on
 abbrev before : List Token → List Token

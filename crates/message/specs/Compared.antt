@@ -1,12 +1,13 @@
 -- What the program `compare` answers to the bytes of two texts.
-use Rattle.std.specs.Prelude.{◌≡◌, ℕ, ◌≤◌, max, List, Ok, Err, vec_items, string_bytes, Result, String}
+use Rattle.std.specs.Prelude.{◌≡◌, ℕ, max, List, Ok, Err, vec_items, string_bytes, Result, String}
 use Rattle.std.specs.declared.alloc.Global.{Global}
 use Rattle.circuit.specs.declared.gate.Gate.{Gate}
-use Rattle.text.specs.declared.error.ReadError.{ReadError}
-use Rattle.text.specs.declared.error.ReadError.TheVariants as unread
+use Rattle.circuit.specs.declared.failure.Failure.{Failure}
+use Rattle.circuit.specs.declared.failure.Failure.TheVariants as failure
+use Rattle.circuit.specs.declared.refusal.Refusal.{Refusal}
 use Rattle.text.specs.declared.program.Circuit.{Circuit}
 use Rattle.equivalence.specs.declared.comparison.Comparison.{Comparison}
-use Rattle.equivalence.specs.declared.comparison.Comparison.TheVariants.{Alike, Different, Refused}
+use Rattle.equivalence.specs.declared.comparison.Comparison.TheVariants.{Alike, Different}
 use Rattle.equivalence.specs.Compare.{Compares, refusal}
 use Rattle.message.specs.declared.comparing.CompareError.{CompareError}
 use Rattle.message.specs.declared.comparing.CompareError.TheVariants as error
@@ -15,10 +16,10 @@ use Rattle.message.specs.declared.comparing.Side.TheVariants.{First, Second}
 use Rattle.message.specs.Reading.{SaysIn, SaysOn, RefusedIn}
 use Rattle.message.specs.Answers.{alike_text, different_text}
 
--- an error of reading, with the side
-abbrev pub on_side : Side → ReadError → CompareError
-on_side side unread.Memory = error.Memory
-on_side side (unread.Refused f) = error.Text side f
+-- a failure of reading, with the side
+abbrev pub on_side : Side → Failure → CompareError
+on_side side failure.Memory = error.Memory
+on_side side (failure.Refused f) = error.Text side f
 
 -- one text, of at most 1024 gates
 abbrev pub SideRead : Side → List ℕ → Result Circuit CompareError → Type 0
@@ -31,22 +32,9 @@ SideRead side bytes (Err (error.Refused f)) = ⊥
 abbrev pub Written : ℕ → Comparison → List ℕ → Type 0
 Written n (Alike t) out = out ≡ alike_text t
 Written n (Different at from) out = out ≡ different_text n at from
-Written n (Refused f) out = ⊥
 
--- an answer that is none of refusal is about at most eight qubits
-abbrev pub Few : ℕ → Comparison → Type 0
-Few n (Alike t) = n ≤ 8
-Few n (Different at from) = n ≤ 8
-Few n (Refused f) = Unit {0}
-
-abbrev pub Shown : ℕ → Comparison → Result (String Global) CompareError → Type 0
-Shown n answer (Ok s) = Written n answer (string_bytes s)
-Shown n answer (Err error.Memory) = Unit {0}
-Shown n answer (Err (error.Text at f)) = ⊥
-Shown n answer (Err (error.Refused f)) = answer ≡ Refused f
-
--- the texts say circuits, and this is the right answer to whether they are the same, on the n qubits of both together
-pub record Answered (first second : List ℕ) (answer : Comparison) (n : ℕ) : Type 0 where
+-- the texts say circuits, and this is the right answer to whether they are the same, or the refusal to tell, on the n qubits of both together
+pub record Answered (first second : List ℕ) (answer : Result Comparison Refusal) (n : ℕ) : Type 0 where
   pub c : List Gate
   pub c_qubits : ℕ
   pub c_said : SaysOn 1024 first c_qubits c
@@ -58,8 +46,8 @@ pub record Answered (first second : List ℕ) (answer : Comparison) (n : ℕ) : 
 
 -- the first text is looked at before the second, and both before the circuits
 abbrev pub Compared : List ℕ → List ℕ → Result (String Global) CompareError → Type 0
-Compared first second (Ok s) = (answer : Comparison) × (n : ℕ) × Answered first second answer n × Written n answer (string_bytes s)
+Compared first second (Ok s) = (answer : Comparison) × (n : ℕ) × Answered first second (Ok answer) n × Written n answer (string_bytes s)
 Compared first second (Err error.Memory) = Unit {0}
 Compared first second (Err (error.Text First f)) = RefusedIn 1024 first f
 Compared first second (Err (error.Text Second f)) = ((c : List Gate) × SaysIn 1024 first c) × RefusedIn 1024 second f
-Compared first second (Err (error.Refused f)) = (n : ℕ) × Answered first second (Refused f) n
+Compared first second (Err (error.Refused f)) = (n : ℕ) × Answered first second (Err f) n

@@ -4,8 +4,8 @@ use Rattle.std.specs.declared.alloc.Global.{Global}
 use Rattle.circuit.specs.declared.gate.Gate.{Gate}
 use Rattle.circuit.specs.declared.refusal.Refusal.{Refusal}
 use Rattle.circuit.specs.declared.refusal.Refusal.TheVariants.{Device}
-use Rattle.text.specs.declared.error.ReadError.{ReadError}
-use Rattle.text.specs.declared.error.ReadError.TheVariants as unread
+use Rattle.circuit.specs.declared.failure.Failure.{Failure}
+use Rattle.circuit.specs.declared.failure.Failure.TheVariants as failure
 use Rattle.text.specs.declared.program.Circuit.{Circuit}
 use Rattle.device.specs.Connect.{CutOff}
 use Rattle.device.specs.Coupling.{graph_in}
@@ -66,9 +66,9 @@ newlines (b ∷ bs) = cond (b == 10) 1 0 + newlines bs
 abbrev pub numbered : List ℕ → ℕ → ℕ
 numbered text k = newlines text + k + 1
 
-abbrev pub text_error : ReadError → JobError
-text_error unread.Memory = Memory
-text_error (unread.Refused f) = Refused f
+abbrev pub text_error : Failure → JobError
+text_error failure.Memory = Memory
+text_error (failure.Refused f) = Refused f
 
 abbrev pub plan_error : List ℕ → PlanError → JobError
 plan_error text plan.Memory = Memory
@@ -81,9 +81,7 @@ abbrev pub TextRead : List ℕ → Result Circuit JobError → Type 0
 TextRead bytes (Ok c) = SaysOn 256 bytes c.qubits (vec_items c.gates)
 TextRead bytes (Err Memory) = Unit {0}
 TextRead bytes (Err (Refused f)) = RefusedIn 256 bytes f
-TextRead bytes (Err (Line k)) = ⊥
-TextRead bytes (Err NoDevice) = ⊥
-TextRead bytes (Err NoLayout) = ⊥
+TextRead bytes (Err _) = ⊥
 
 -- the lines behind it
 abbrev pub LinesRead : List ℕ → List ℕ → Result Plan JobError → Type 0
@@ -103,9 +101,7 @@ abbrev pub Brought : ℕ → List Gate → Table → List ℕ → Result Compile
 Brought n gs d places (Ok c) = CarriesOut n (graph_in d.size d.joined) (at places) (at (vec_items c.layout)) gs (vec_items c.gates)
 Brought n gs d places (Err Memory) = Unit {0}
 Brought n gs d places (Err (Refused f)) = TurnedAway n d places gs f
-Brought n gs d places (Err (Line k)) = ⊥
-Brought n gs d places (Err NoDevice) = ⊥
-Brought n gs d places (Err NoLayout) = ⊥
+Brought n gs d places (Err _) = ⊥
 
 -- the text is looked at before the lines behind it, and both before the circuit and the device
 abbrev pub Answers : List ℕ → Result (String Global) JobError → Type 0

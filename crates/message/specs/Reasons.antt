@@ -6,15 +6,11 @@ use Rattle.circuit.specs.Refusals.{number, place}
 
 -- what its place counts
 abbrev pub counted : Refusal → List ℕ
-counted (Qubits p) = codes ""
 counted (Length p) = codes "list "
-counted (Number p) = codes ""
 counted (Gate p) = codes "gate "
 counted (Layout p) = codes "qubit "
-counted (Device p) = codes ""
-counted (Room p) = codes ""
-counted (Mixes p) = codes ""
 counted (Text p) = codes "sign "
+counted _ = codes ""
 
 abbrev pub meaning : Refusal → List ℕ
 meaning (Qubits p) = codes "no qubit, or more than are taken"

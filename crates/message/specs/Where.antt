@@ -1,5 +1,5 @@
 -- Where a sign stands in a text: its byte, its line and its column.
-use Rattle.std.specs.Prelude.{◌≡◌, ℕ, zero, suc, ◌+◌, ◌≤◌, Bool, true, false, cond, not, List, [], ◌∷◌, length, take, ◌==◌}
+use Rattle.std.specs.Prelude.{◌≡◌, ℕ, zero, suc, ◌+◌, ◌-◌, ◌≤◌, Bool, true, false, cond, not, ◌&&◌, List, [], ◌∷◌, length, take, ◌==◌, nat_lt, get_or}
 use Rattle.text.specs.declared.token.Class.{Class}
 use Rattle.text.specs.declared.token.Class.TheVariants.{Alphanumeric, Blank, Mark}
 use Rattle.text.specs.Cut.{cut}
@@ -21,6 +21,10 @@ abbrev pub in_word : Class → Bool
 in_word Alphanumeric = true
 in_word Blank = false
 in_word (Mark t) = false
+
+-- a sign begins at byte i of a text
+abbrev pub begins_sign : List ℕ → ℕ → Bool
+begins_sign bs i = begins (class (get_or bs i 0)) (nat_lt 0 i && in_word (class (get_or bs (i - 1) 0)))
 
 abbrev pub by_kind : Class → Bool → ℕ → (Bool → ℕ → ℕ) → ℕ
 by_kind c inside i on = cond (begins c inside) (begins_here i (on (in_word c))) (suc (on (in_word c) i))

@@ -1,14 +1,14 @@
 //! Two texts compared: from their bytes to the line that is printed.
-ghost use Rattle.std.specs.Prelude.{◌≡◌, ◌≤◌, IfOk, string_bytes};
+ghost use Rattle.std.specs.Prelude.{◌≡◌, IfOk, string_bytes};
 ghost use Rattle.message.specs.Answers.{alike_text, different_text};
-ghost use Rattle.message.specs.Compared.{Compared, Few, Shown, SideRead, on_side};
-ghost use Rattle.message.specs.declared.comparing.CompareError.TheVariants.{Memory};
+ghost use Rattle.message.specs.Compared.{Compared, SideRead, Written, on_side};
+ghost use Rattle.message.specs.declared.comparing.CompareError.TheVariants as error;
 
-use crate::rows::show_row;
-use circuit::Refusal;
+use crate::rows::Digits;
+use circuit::{Failure, Refusal, Register};
 use equivalence::{Comparison, compare_circuits};
 use std::alloc::{AllocError, Global};
-use text::{Circuit, ReadError, read};
+use text::{Circuit, read};
 
 /// Which of two texts.
 #[derive(Clone, Copy, PartialEq, Eq, Debug)]
@@ -28,70 +28,84 @@ pub enum CompareError {
 }
 
 impl From<AllocError> for CompareError {
-    ghost from_gives = { λ _ r. r ≡ Memory };
+    ghost from_gives = { λ _ r. r ≡ error.Memory };
 
     fn from(_e: AllocError) -> CompareError {
         CompareError::Memory
     }
 }
 
+impl From<Refusal> for CompareError {
+    ghost from_gives = { λ f r. r ≡ error.Refused f };
+
+    fn from(refusal: Refusal) -> CompareError {
+        CompareError::Refused(refusal)
+    }
+}
+
 /// The most gates that a text may say to be compared.
 const MOST_GATES: u64 = 1024;
 
-fn side_error(side: Side, error: ReadError) -> CompareError
-    ensures { result ≡ on_side side error }
+/// A failure to read the text of a side.
+fn on_side(side: Side, failure: Failure) -> CompareError
+    ensures { result ≡ on_side side failure }
 {
-    match error {
-        ReadError::Memory => CompareError::Memory,
-        ReadError::Refused(refusal) => CompareError::Text(side, refusal),
+    match failure {
+        Failure::Memory => CompareError::Memory,
+        Failure::Refused(refusal) => CompareError::Text(side, refusal),
     }
 }
 
 fn read_side(heap: Global, side: Side, text: &[u8]) -> Result<Circuit, CompareError>
     ensures { SideRead side text.now result }
 {
-    match read(heap, text, MOST_GATES) {
-        Ok(circuit) => Ok(circuit),
-        Err(error) => Err(side_error(side, error)),
-    }
+    read(heap, text, MOST_GATES).map_err(|failure| on_side(side, failure))
 }
 
-fn alike(heap: Global, turn: u8) -> Result<String, AllocError>
+fn show_alike(heap: Global, turn: u8) -> Result<String, AllocError>
     ensures { IfOk result (λ s. string_bytes s ≡ alike_text turn) }
 {
     format!(in heap; "alike, turn {turn}\n")
 }
 
-fn different(heap: Global, qubits: u8, row: usize, from: usize) -> Result<String, AllocError>
-    requires { qubits ≤ 8 }
-    ensures { IfOk result (λ s. string_bytes s ≡ different_text qubits row from) }
+fn show_different(
+    heap: Global,
+    register: Register,
+    row: usize,
+    from: usize,
+) -> Result<String, AllocError>
+    ensures { IfOk result (λ s. string_bytes s ≡ different_text register.qubits row from) }
 {
-    let row = show_row(heap, qubits, row)?;
-    let from = show_row(heap, qubits, from)?;
+    let row = Digits {
+        register,
+        number: row,
+    };
+    let from = Digits {
+        register,
+        number: from,
+    };
     format!(in heap; "different at {row} from {from}\n")
 }
 
-/// An answer that is not `Alike`, or the refusal that it is.
-fn show_unlike(heap: Global, qubits: u64, answer: Comparison) -> Result<String, CompareError>
-    requires { Few qubits answer }
-    ensures { Shown qubits answer result }
+/// The line that tells an answer on a register's qubits, be it `Alike` or not.
+fn show_unlike(heap: Global, register: Register, answer: Comparison) -> Result<String, AllocError>
+    ensures { IfOk result (λ s. Written register.qubits answer (string_bytes s)) }
 {
     match answer {
-        Comparison::Alike { turn } => Ok(alike(heap, turn)?),
-        Comparison::Different { row, from } => Ok(different(heap, qubits as u8, row, from)?),
-        Comparison::Refused(refusal) => Err(CompareError::Refused(refusal)),
+        Comparison::Alike { turn } => show_alike(heap, turn),
+        Comparison::Different { row, from } => show_different(heap, register, row, from),
     }
 }
 
-/// The line that tells an answer, or the refusal that it is.
-fn show_answer(heap: Global, qubits: u64, answer: Comparison) -> Result<String, CompareError>
-    requires { Few qubits answer }
-    ensures { Shown qubits answer result }
+/// The line that tells an answer on a register's qubits.
+fn show_answer(heap: Global, register: Register, answer: Comparison) -> Result<String, AllocError>
+    ensures { IfOk result (λ s. Written register.qubits answer (string_bytes s)) }
 {
+    // By let .. else, as the project takes an answer apart; a match alone would do.
     let Comparison::Alike { turn } = answer else {
-        return show_unlike(heap, qubits, answer);
+        return show_unlike(heap, register, answer);
     };
-    Ok(alike(heap, turn)?)
+    show_alike(heap, turn)
 }
 
 /// Compares two texts, on the qubits of both together: the line that is printed.
@@ -101,6 +115,7 @@ pub fn compare_texts(heap: Global, first: &[u8], second: &[u8]) -> Result<String
     let c = read_side(heap, Side::First, first)?;
     let d = read_side(heap, Side::Second, second)?;
     let qubits = c.qubits.max(d.qubits);
-    let answer = compare_circuits(qubits, &c.gates, &d.gates);
-    show_answer(heap, qubits, answer)
+    let register = Register::try_from(qubits)?;
+    let answer = compare_circuits(qubits, &c.gates, &d.gates)?;
+    Ok(show_answer(heap, register, answer)?)
 }

@@ -2,15 +2,16 @@
 ghost use Rattle.std.specs.Prelude.{◌≡◌, ◌*◌, ◌%◌, ◌≤◌, length, IfOk};
 ghost use Rattle.circuit.specs.Code.{gates_in};
 ghost use Rattle.job.specs.Plan.{whole};
-ghost use Rattle.message.specs.Compiled.{Answers, Brought, Improved, LinesRead, TextRead, newlines, plan_error, text_error, text_of};
-ghost use Rattle.message.specs.declared.compiling.JobError.TheVariants.{Memory};
+ghost use Rattle.message.specs.Compiled.{Answers, Brought, Improved, LinesRead, TextRead, plan_error, text_error, text_of};
+ghost use Rattle.message.specs.declared.compiling.JobError.TheVariants.{Memory, Refused};
 
+use crate::locate::line_after;
 use crate::show::show_compiled;
-use circuit::{Gate, Refusal, decode};
-use compiler::{Compilation, check_circuit, compile_circuit};
+use circuit::{Failure, Gate, Refusal, decode};
+use compiler::{Request, compile_circuit};
 use job::{Plan, PlanError, read_plan, text_length};
 use std::alloc::{AllocError, Global};
-use text::{Circuit, ReadError, read};
+use text::{Circuit, read};
 use tidy::tidy;
 
 /// Why nothing comes of a job.
@@ -34,6 +35,25 @@ impl From<AllocError> for JobError {
     }
 }
 
+impl From<Failure> for JobError {
+    ghost from_gives = { λ e r. r ≡ text_error e };
+
+    fn from(failure: Failure) -> JobError {
+        match failure {
+            Failure::Memory => JobError::Memory,
+            Failure::Refused(refusal) => JobError::Refused(refusal),
+        }
+    }
+}
+
+impl From<Refusal> for JobError {
+    ghost from_gives = { λ f r. r ≡ Refused f };
+
+    fn from(refusal: Refusal) -> JobError {
+        JobError::Refused(refusal)
+    }
+}
+
 /// Device gates, and where each qubit lies at the end.
 #[derive(Drop)]
 pub struct Compiled {
@@ -47,42 +67,20 @@ const MOST_GATES: u64 = 256;
 /// Numbers of room for each gate, which are always enough.
 const ROOM: usize = 1200;
 
-fn text_error(error: ReadError) -> JobError
-    ensures { result ≡ text_error error }
-{
-    match error {
-        ReadError::Memory => JobError::Memory,
-        ReadError::Refused(refusal) => JobError::Refused(refusal),
-    }
-}
-
 fn read_text(heap: Global, text: &[u8]) -> Result<Circuit, JobError>
     ensures { TextRead text.now result }
 {
-    match read(heap, text, MOST_GATES) {
-        Ok(circuit) => Ok(circuit),
-        Err(error) => Err(text_error(error)),
-    }
+    Ok(read(heap, text, MOST_GATES)?)
 }
 
-fn count_newlines(text: &[u8]) -> usize
-    ensures { result ≡ newlines text.now }
-{
-    let mut count = 0;
-    for b in text {
-        if *b == b'\n' {
-            count += 1;
-        }
-    }
-    count
-}
-
+/// A fault behind a text, its line counted over the whole job.
+#[tactic(auto, using(crate::proofs::Wherein::line_is))]
 fn plan_error(text: &[u8], error: PlanError) -> JobError
     ensures { result ≡ plan_error text.now error }
 {
     match error {
         PlanError::Memory => JobError::Memory,
-        PlanError::Line(k) => JobError::Line(count_newlines(text) as u128 + k as u128 + 1),
+        PlanError::Line(k) => JobError::Line(line_after(text) as u128 + k as u128),
         PlanError::NoDevice => JobError::NoDevice,
         PlanError::NoLayout => JobError::NoLayout,
     }
@@ -91,10 +89,7 @@ fn plan_error(text: &[u8], error: PlanError) -> JobError
 fn read_lines(heap: Global, text: &[u8], lines: &[u8]) -> Result<Plan, JobError>
     ensures { LinesRead text.now lines.now result }
 {
-    match read_plan(heap, lines) {
-        Ok(plan) => Ok(plan),
-        Err(error) => Err(plan_error(text, error)),
-    }
+    read_plan(heap, lines).map_err(|error| plan_error(text, error))
 }
 
 /// The gates that numbers are, four each.
@@ -114,32 +109,27 @@ fn place_gates(heap: Global, qubits: u64, gates: &[Gate], plan: &Plan) -> Result
 {
     let mut room = vec![in heap; 0; ROOM * gates.len()]?;
     let mut layout = vec![in heap; 0; qubits as usize]?;
-    let made = compile_circuit(
+    let count = compile_circuit(
         qubits,
-        u64::from(plan.size),
-        &plan.joined,
+        u64::from(plan.device.size),
+        &plan.device.joined,
         &plan.layout,
         gates,
         &mut room,
         &mut layout,
-    );
-    match made {
-        Compilation::Refused(refusal) => Err(JobError::Refused(refusal)),
-        Compilation::Compiled(count) => {
-            let gates = decoded(heap, &room[0..4 * count as usize])?;
-            Ok(Compiled { gates, layout })
-        }
-    }
+    )?;
+    let gates = decoded(heap, &room[..4 * count as usize])?;
+    Ok(Compiled { gates, layout })
 }
 
 /// Tidies gates, unless they are to be left plain.
+// As a closure this step would have to be asked to keep `Improved`, which the test keeps by itself.
 fn tidy_unless(plain: bool, gates: &mut Vec<Gate>)
     ensures { Improved gates.old.items gates.new.items }
 {
-    if plain {
-        return;
+    if !plain {
+        let _turn = tidy(gates);
     }
-    let _turn = tidy(gates);
 }
 
 /// Brings a circuit onto the device of a plan, tidied before and after unless it is to be left plain.
@@ -147,16 +137,14 @@ fn bring(heap: Global, circuit: Circuit, plan: &Plan, plain: bool) -> Result<Com
     ensures { Brought circuit.qubits circuit.gates.items (whole plan.now).0 (whole plan.now).1 result }
 {
     let Circuit { qubits, mut gates } = circuit;
-    if let Err(refusal) = check_circuit(
-        qubits,
-        u64::from(plan.size),
-        &plan.joined,
-        &plan.layout,
-        &gates,
-        qubits as usize,
-    ) {
-        return Err(JobError::Refused(refusal));
-    }
+    let request = Request {
+        n: qubits,
+        size: u64::from(plan.device.size),
+        joined: &plan.device.joined,
+        place: &plan.layout,
+        out: qubits as usize,
+    };
+    request.check_circuit(&gates)?;
     tidy_unless(plain, &mut gates);
     let mut compiled = place_gates(heap, qubits, &gates, plan)?;
     tidy_unless(plain, &mut compiled.gates);
@@ -179,6 +167,5 @@ pub fn compile_job(heap: Global, job: &[u8], plain: bool) -> Result<String, JobE
     let circuit = read_text(heap, text)?;
     let plan = read_lines(heap, text, lines)?;
     let compiled = bring(heap, circuit, &plan, plain)?;
-    let shown = show_compiled(heap, &compiled.gates, &compiled.layout)?;
-    Ok(shown)
+    Ok(show_compiled(heap, &compiled.gates, &compiled.layout)?)
 }

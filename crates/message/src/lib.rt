@@ -14,5 +14,5 @@ pub use compiling::{JobError, compile_job, text_of};
 pub use locate::{Position, position_of, show_place, start_stands};
 pub use reason::Reason;
 pub use round::round_trip_stands;
-pub use rows::show_row;
+pub use rows::{Digits, show_row};
 pub use show::{show_compiled, show_gate, show_gates, show_layout};

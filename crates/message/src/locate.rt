@@ -1,6 +1,6 @@
 //! Where a sign stands in a text.
-ghost use Rattle.std.specs.Prelude.{◌≡◌, ◌≤◌, false, length};
-ghost use Rattle.message.specs.Where.{Stands, Starts, begins, column_after, in_word, line_after, start_of};
+ghost use Rattle.std.specs.Prelude.{◌≡◌, ◌<◌, ◌≤◌, false, length};
+ghost use Rattle.message.specs.Where.{Stands, Starts, begins_sign, column_after, in_word, line_after, start_of};
 
 use std::alloc::{AllocError, Global};
 use text::{Class, class_of};
@@ -13,22 +13,21 @@ pub struct Position {
     pub column: usize,
 }
 
-fn begins(class: Class, inside: bool) -> bool
-    ensures { result ≡ begins class inside }
-{
-    match class {
-        Class::Alphanumeric => !inside,
-        Class::Blank => false,
-        Class::Mark(_) => true,
-    }
-}
-
 fn in_word(class: Class) -> bool
     ensures { result ≡ in_word class }
 {
-    match class {
-        Class::Alphanumeric => true,
-        _ => false,
+    matches!(class, Class::Alphanumeric)
+}
+
+/// Whether a sign begins at a byte.
+fn begins_sign(text: &[u8], at: usize) -> bool
+    requires { at < length text.now }
+    ensures { result ≡ begins_sign text.now at }
+{
+    match class_of(text[at]) {
+        Class::Alphanumeric => at == 0 || !in_word(class_of(text[at - 1])),
+        Class::Blank => false,
+        Class::Mark(_) => true,
     }
 }
 
@@ -37,41 +36,22 @@ fn start_of(text: &[u8], sign: u64) -> usize
     ensures exact { result ≡ start_of false sign text.now }
     ensures within { result ≤ length text.now }
 {
-    let mut inside = false;
-    let mut left = sign;
-    for (i, b) in text.iter().enumerate() {
-        let class = class_of(*b);
-        if begins(class, inside) {
-            if left == 0 {
-                return i;
-            }
-            left -= 1;
-        }
-        inside = in_word(class);
-    }
-    text.len()
+    let mut starts = (0..text.len()).filter(|at| begins_sign(text, *at));
+    starts.nth(sign as usize).unwrap_or(text.len())
 }
 
 /// The line of what comes after some bytes.
-fn line_after(before: &[u8]) -> usize
+pub fn line_after(before: &[u8]) -> usize
     ensures { result ≡ line_after 1 before.now }
 {
-    let mut line = 1;
-    for b in before {
-        line = if *b == b'\n' { line + 1 } else { line };
-    }
-    line
+    1 + before.iter().filter(|b| **b == b'\n').count()
 }
 
 /// The column of what comes after some bytes.
 fn column_after(before: &[u8]) -> usize
     ensures { result ≡ column_after 1 before.now }
 {
-    let mut column = 1;
-    for b in before {
-        column = if *b == b'\n' { 1 } else { column + 1 };
-    }
-    column
+    1 + before.iter().rev().take_while(|b| **b != b'\n').count()
 }
 
 /// Where a sign stands, or where the text ends if it has not so many.
@@ -89,23 +69,18 @@ pub fn position_of(text: &[u8], sign: u64) -> Position
 
 /// The line that holds a place, with a mark under the place; nothing if the text is no UTF-8.
 pub fn show_place(heap: Global, text: &[u8], at: Position) -> Result<String, AllocError> {
-    let mut out = String::new(heap);
     let Ok(text) = std::str::from_utf8(text) else {
-        return Ok(out);
+        return Ok(String::new(heap));
     };
-    if let Some(line) = text.lines().nth(at.line.saturating_sub(1)) {
-        out.push_str("    ")?;
-        out.push_str(line)?;
-        out.push_str("\n   ")?;
-        for _ in 0..at.column {
-            out.push_str(" ")?;
-        }
-        out.push_str("^\n")?;
-    }
-    Ok(out)
+    let Some(line) = text.lines().nth(at.line.saturating_sub(1)) else {
+        return Ok(String::new(heap));
+    };
+    let margin = " ".repeat(heap, at.column)?;
+    format!(in heap; "    {line}\n   {margin}^\n")
 }
 
 /// As many signs stand before a sign as its number says.
+#[tactic(auto, using(crate::proofs::Wherein::starts))]
 pub fn start_stands() -> u8
     ensures { Starts }
 {

@@ -1,20 +1,34 @@
 //! Rows as they are written, qubit 0 first.
-ghost use Rattle.std.specs.Prelude.{◌≡◌, ◌≤◌, IfOk, string_bytes};
+ghost use Rattle.std.specs.Prelude.{◌≡◌, IfOk, Some, string_bytes};
 ghost use Rattle.circuit.specs.Rows.{row};
 ghost use Rattle.message.specs.Answers.{row_text};
 
-use circuit::has;
+use circuit::Register;
 use std::alloc::{AllocError, Global};
+use std::fmt;
 
-/// The digits of the row with the number.
-pub fn show_row(heap: Global, qubits: u8, number: usize) -> Result<String, AllocError>
-    requires { qubits ≤ 8 }
-    ensures { IfOk result (λ s. string_bytes s ≡ row_text qubits (row qubits number)) }
-{
-    let mut out = String::new(heap);
-    for qubit in 0..qubits {
-        let digit = if has(qubits, number, qubit) { "1" } else { "0" };
-        out.push_str(digit)?;
+/// The row of a register with the number, shown by its digits.
+#[derive(Clone, Copy)]
+pub struct Digits {
+    pub register: Register,
+    pub number: usize,
+}
+
+impl fmt::Display for Digits {
+    ghost output = { λ d. Some (row_text d.register.qubits (row d.register.qubits d.number)) };
+
+    fn fmt<W: fmt::Write>(&self, f: &mut fmt::Formatter<W>) -> fmt::Result {
+        for qubit in 0..self.register.qubits {
+            let digit = u8::from(self.register.has(self.number, qubit));
+            write!(f, "{digit}")?;
+        }
+        Ok(())
     }
-    Ok(out)
+}
+
+/// The digits of the row of a register with the number.
+pub fn show_row(heap: Global, register: Register, number: usize) -> Result<String, AllocError>
+    ensures { IfOk result (λ s. string_bytes s ≡ row_text register.qubits (row register.qubits number)) }
+{
+    Digits { register, number }.to_string(heap)
 }

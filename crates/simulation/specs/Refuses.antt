@@ -7,8 +7,8 @@ use Rattle.circuit.specs.declared.refusal.Refusal.TheVariants.{Qubits, Length, M
 use Rattle.circuit.specs.declared.refusal.Refusal.TheVariants as variant
 use Rattle.circuit.specs.Circuit.{mixes}
 use Rattle.circuit.specs.Refusals.{or_else, unless, at_place, misfit_from}
-use Rattle.simulation.specs.declared.error.SimulationError.{SimulationError}
-use Rattle.simulation.specs.declared.error.SimulationError.TheVariants.{Memory, Refused}
+use Rattle.circuit.specs.declared.failure.Failure.{Failure}
+use Rattle.circuit.specs.declared.failure.Failure.TheVariants.{Memory, Refused}
 use Rattle.simulation.specs.Playing.{played}
 
 -- the first refusal that applies to gates on n qubits that begin from a row
@@ -20,7 +20,7 @@ refusal n ds gs =
     (unless (nat_le (mixes gs) 60) (Mixes (mixes gs)))))
 
 -- what is answered: the amplitudes as text, or the first refusal that applies
-abbrev pub Plays : ℕ → List Bool → List Gate → Result (String Global) SimulationError → Type 0
+abbrev pub Plays : ℕ → List Bool → List Gate → Result (String Global) Failure → Type 0
 Plays n ds gs (Ok s) = (refusal n ds gs ≡ None) × (string_bytes s ≡ played n ds gs)
 Plays n ds gs (Err Memory) = Unit {0}
 Plays n ds gs (Err (Refused f)) = refusal n ds gs ≡ Some f

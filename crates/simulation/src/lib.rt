@@ -2,9 +2,7 @@
 #![tactic(auto)]
 
 mod check;
-mod error;
 mod play;
 mod start;
 
-pub use error::SimulationError;
 pub use play::show_amplitudes;

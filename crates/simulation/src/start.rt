@@ -11,7 +11,7 @@ pub fn number_of(digits: &[bool]) -> usize
 {
     let mut number = 0;
     for digit in digits {
-        number = 2 * number + if *digit { 1 } else { 0 };
+        number = 2 * number + usize::from(*digit);
     }
     number
 }

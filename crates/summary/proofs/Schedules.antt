@@ -38,7 +38,7 @@ freed_later free g k = go (about g k) refl
     go false e = omega arith
 
 -- no gate of a schedule begins before it is ready
-freed_by : (free : ℕ → ℕ) (g : Gate) (k s t : ℕ) → ready free g ≤ s → (about g k ≡ true → s < t) → free k ≤ t → freed free g k ≤ t
+pub freed_by : (free : ℕ → ℕ) (g : Gate) (k s t : ℕ) → ready free g ≤ s → (about g k ≡ true → s < t) → free k ≤ t → freed free g k ≤ t
 unfolding freed
 freed_by free g k s t r l f = go (about g k) refl
   where

@@ -1,15 +1,10 @@
 -- What a circuit is made of, in numbers.
-use Rattle.std.specs.Prelude.{ℕ, ◌+◌, Bool, true, false, cond, List, [], ◌∷◌, length}
+use Rattle.std.specs.Prelude.{Bool, true, false, List, length, count_by}
 use Rattle.circuit.specs.declared.gate.Gate.{Gate}
 use Rattle.circuit.specs.declared.gate.Gate.TheVariants.{Phase, Hadamard, Not, ControlledNot, Toffoli}
 use Rattle.circuit.specs.Circuit.{mixes, t_count}
 use Rattle.summary.specs.declared.tally.Counts.{Counts}
 use Rattle.summary.specs.Depth.{depth}
-
--- how many gates pass a test
-unfoldable pub tally : (Gate → Bool) → List Gate → ℕ
-tally p [] = 0
-tally p (g ∷ gs) = cond (p g) 1 0 + tally p gs
 
 -- a Not by one other qubit
 abbrev pub is_cnot : Gate → Bool
@@ -32,8 +27,8 @@ abbrev pub counts : List Gate → Counts
 counts gs =
     record {
       gates = length gs;
-      cnots = tally is_cnot gs;
-      toffolis = tally is_toffoli gs;
+      cnots = count_by is_cnot gs;
+      toffolis = count_by is_toffoli gs;
       t_count = t_count gs;
       hadamards = mixes gs;
       depth = depth gs;

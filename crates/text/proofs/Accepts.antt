@@ -1,12 +1,11 @@
 -- Which signs a reader takes: the limit and the place make no difference.
-use Rattle.std.proofs.Common.{◌≡◌, ℕ, Bool, true, false, cond, ◌&&◌, eqb, ltb, List, [], ◌∷◌, length, is_some, Some, None, Option, sym, refl, ◌∙◌, true≢false}
-use mathlib.Core.Bool.{false≢true}
+use Rattle.std.proofs.Common.{◌≡◌, ℕ, Bool, true, false, cond, ◌&&◌, eqb, ltb, List, [], ◌∷◌, length, is_some, Some, None, Option, sym, refl, ◌∙◌}
 use Rattle.text.specs.declared.token.Token.{Token}
 use Rattle.text.specs.declared.statement.Move.{Move}
 use Rattle.text.specs.declared.statement.Move.TheVariants as move
 use Rattle.text.specs.Accept.{accepts, size_of}
 use Rattle.text.specs.Move.{moved}
-use Rattle.text.specs.Reading.{State, Held, left, closes, called, no_braces, place, act, settles, step}
+use Rattle.text.specs.Reading.{State, Held, closes, called, place, act, settles, step}
 
 both : {T : Type 0} (a b : Bool) (x : T) → is_some (cond a (cond b (Some x) None) None) ≡ (a && b)
 both true true x = refl
@@ -14,19 +13,7 @@ both true false x = refl
 both false b x = refl
 
 module _ (limit : ℕ) (s : State) where
-  left-some : (o : Option ℕ) → is_some (left s o) ≡ is_some o
-  left-some None = refl
-  left-some (Some n) = refl
-
-  pub closes_open : (hs : List Held) → no_braces hs ≡ false → is_some (closes limit s hs) ≡ true
-  closes_open [] e = absurd (true≢false e)
-  closes_open (h ∷ hs) e = refl
-
-  pub closes-none : (hs : List Held) → no_braces hs ≡ true → is_some (closes limit s hs) ≡ is_some s.inside
-  closes-none [] e = left-some s.inside
-  closes-none (h ∷ hs) e = absurd (false≢true e)
-
-  pub called-some : (k : ℕ) → is_some (called limit k s) ≡ (ltb k (length s.blocks) && eqb (length s.names) (size_of s k))
+  called-some : (k : ℕ) → is_some (called limit k s) ≡ (ltb k (length s.blocks) && eqb (length s.names) (size_of s k))
   called-some k = both (ltb k (length s.blocks)) (eqb (length s.names) (size_of s k)) _
 
   closes_any : (hs : List Held) → is_some (closes limit s hs) ≡ is_some (closes 0 s hs)
@@ -34,14 +21,9 @@ module _ (limit : ℕ) (s : State) where
   closes_any (h ∷ hs) = refl
 
   act_any : (m : Move) → is_some (act limit s m) ≡ is_some (act 0 s m)
-  act_any (move.Go p) = refl
-  act_any (move.Say g) = refl
-  act_any (move.Open b) = refl
-  act_any (move.Enter n) = refl
   act_any move.Close = closes_any s.braces
-  act_any (move.Name k q) = refl
   act_any (move.Call k) = called-some k ∙ sym (both (ltb k (length s.blocks)) (eqb (length s.names) (size_of s k)) _)
-  act_any move.Refuse = refl
+  act_any m = refl
 
 pub settles-some : (at : ℕ) (o : Option State) → is_some (settles at o) ≡ is_some o
 settles-some at None = refl

@@ -1,7 +1,7 @@
 -- A reader that answers as the reference does answers by what texts say.
 use Rattle.std.proofs.Common.{◌≡◌, ℕ, List, [], Ok, Err, vec_items, Result, sym, ap, ◌∙◌, subst, inl, inr}
-use Rattle.text.specs.declared.error.ReadError.{ReadError}
-use Rattle.text.specs.declared.error.ReadError.TheVariants.{Memory, Refused}
+use Rattle.circuit.specs.declared.failure.Failure.{Failure}
+use Rattle.circuit.specs.declared.failure.Failure.TheVariants.{Memory, Refused}
 use Rattle.text.specs.declared.program.Circuit.{Circuit}
 use Rattle.text.specs.declared.token.Token.{Token}
 use Rattle.text.specs.Cut.{cut, Front}
@@ -16,11 +16,11 @@ module _ (limit : ℕ) (bs : List ℕ) (ts : List Token) (front : Front 4096 (cu
   all_of : (us : List Token) → Spells bs us → reading limit us ≡ reading limit ts
   all_of us s = ap (reading limit) (cut-is bs us s) ∙ sym (reading_front limit (cut [] bs) ts front)
 
-  pub answers_error : (e : ReadError) → Runs (Err e) (reading limit ts) → AnswersText limit bs (Err e)
+  pub answers_error : (e : Failure) → Runs (Err e) (reading limit ts) → AnswersText limit bs (Err e)
   answers_error Memory h us s = tt
   answers_error (Refused r) h us s = let u = unread limit us r (all_of us s ∙ h) in subst (λ q. Answers limit us (Err (Refused q))) (sym u.1) (inl u.2)
 
-  pub answers_settled : (s : State) → reading limit ts ≡ Ok s → (r : Result Circuit ReadError) → Settles s r → AnswersText limit bs r
+  pub answers_settled : (s : State) → reading limit ts ≡ Ok s → (r : Result Circuit Failure) → Settles s r → AnswersText limit bs r
   answers_settled s e (Ok c) h us sp =
       let y = whole_says limit us s (vec_items c.gates) (whole limit us s (all_of us sp ∙ e)) h.0 in
       (y.0, h.1 ∙ sym y.1)

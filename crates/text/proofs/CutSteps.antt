@@ -1,6 +1,6 @@
 -- Cutting a text, step by step.
-use Rattle.std.proofs.Common.{◌≡◌, ℕ, ◌+◌, ◌<◌, ◌≤◌, List, [], ◌∷◌, ◌++◌, length, get_or, drop, sym, refl, ap, ◌∙◌, append_assoc, arith}
-use Rattle.std.proofs.lemmas.List.{at_drop_more, at_drop_all}
+use Rattle.std.proofs.Common.{◌≡◌, ℕ, ◌+◌, ◌<◌, ◌≤◌, List, [], ◌∷◌, ◌++◌, length, get_or, drop, sym, refl, ap, ◌∙◌, append_assoc}
+use Rattle.std.proofs.lemmas.List.{at_drop_more}
 use Rattle.std.proofs.lemmas.List.Edits.{between_more, between_none}
 use Rattle.std.specs.List.{between}
 use Rattle.text.specs.declared.token.Token.{Token}
@@ -34,7 +34,3 @@ module _ (out : List Token) (text : List ℕ) (start i : ℕ) (before : start �
       ∙ ap (λ r. out ++ r) (by_class-parts c (flushed (between start i text)) (cut [] (drop (i + 1) text)) h
       ∙ by_class-on c _ _ _ (cut (between start i text ++ get_or text i 0 ∷ []) (drop (i + 1) text)) h
       ∙ sym (at_drop_more (cut (between start i text)) text i 0 more ∙ ap (λ d. by_class d (flushed (between start i text)) (cut [] (drop (i + 1) text)) (cut (between start i text ++ get_or text i 0 ∷ []) (drop (i + 1) text))) (sym e)))
-
--- the end of a text
-pub at_end : (out : List Token) (text : List ℕ) (start i : ℕ) → i ≡ length text → out ++ cut (between start i text) (drop i text) ≡ out ++ flushed (between start (length text) text)
-at_end out text start i e = ap (λ r. out ++ r) (at_drop_all (cut (between start i text)) text i (omega arith) ∙ ap (λ k. flushed (between start k text)) e)

@@ -1,5 +1,6 @@
 pub mod CutSteps
 pub mod Decimal
+pub mod Words
 pub mod Spelt
 pub mod Rows
 pub mod Steps

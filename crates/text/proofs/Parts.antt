@@ -92,26 +92,17 @@ module _ (n k : ℕ) (size : ℕ → ℕ) (fresh : Bool) (ns : List ℕ) where
 
   -- what its numbers have been found to be
   abbrev pub FinePart : Part → Type 0
-  FinePart Start = ns ≡ []
-  FinePart TurnBy = ns ≡ []
-  FinePart (TurnOf m) = ns ≡ []
-  FinePart (TurnQubit m) = ns ≡ []
-  FinePart MixQubit = ns ≡ []
-  FinePart FlipQubit = ns ≡ []
   FinePart (FlipMore q) = (ns ≡ []) × (ltb q n ≡ true)
   FinePart (FlipIf q) = (ns ≡ []) × (ltb q n ≡ true)
   FinePart (FlipTwo c q) = (ns ≡ []) × (ltb q n ≡ true) × (ltb c n ≡ true)
   FinePart (Ends g) = (ns ≡ []) × AllTrue (gate_checks n g)
-  FinePart UndoOpens = ns ≡ []
-  FinePart (TimesWord m) = ns ≡ []
-  FinePart (TimesOpens m) = ns ≡ []
-  FinePart CallBlock = ns ≡ []
   FinePart (CallOn b) = (ns ≡ []) × (ltb b k ≡ true)
   FinePart (Naming b) = (ltb b k ≡ true) × Differ n (size b) [] ns
   FinePart BlockNumber = (ns ≡ []) × (fresh ≡ true)
   FinePart BlockOf = (ns ≡ []) × (fresh ≡ true)
   FinePart BlockSize = (ns ≡ []) × (fresh ≡ true)
   FinePart (BlockOpens m) = (ns ≡ []) × (fresh ≡ true)
+  FinePart p = ns ≡ []
 
   abbrev pub Told : Part → Token → Move → Type 0
   Told p u (move.Go r) = (so_far r ≡ so_far p ++ u ∷ []) × (is_start r ≡ false) × FinePart r
@@ -124,44 +115,12 @@ module _ (n k : ℕ) (size : ℕ → ℕ) (fresh : Bool) (ns : List ℕ) where
   Told p u move.Refuse = Unit {0}
 
   by_number : (p : Part) (u : Token) (f : ℕ → Move) → ((m : ℕ) → Told p (Number m) (f m)) → Told p u (on_number (number_in u) f)
-  by_number p Turn f h = tt
-  by_number p Of f h = tt
-  by_number p Mix f h = tt
-  by_number p Flip f h = tt
-  by_number p If f h = tt
-  by_number p Device f h = tt
-  by_number p Joined f h = tt
-  by_number p Lay f h = tt
-  by_number p Undo f h = tt
-  by_number p Times f h = tt
-  by_number p Block f h = tt
-  by_number p Call f h = tt
-  by_number p On f h = tt
   by_number p (Number m) f h = h m
-  by_number p Open f h = tt
-  by_number p Close f h = tt
-  by_number p Semicolon f h = tt
-  by_number p Other f h = tt
+  by_number p u f h = tt
 
   by_below : (p : Part) (u : Token) (r : ℕ) (f : ℕ → Move) → ((m : ℕ) → ltb m r ≡ true → Told p (Number m) (f m)) → Told p u (on_number (below r (number_in u)) f)
-  by_below p Turn r f h = tt
-  by_below p Of r f h = tt
-  by_below p Mix r f h = tt
-  by_below p Flip r f h = tt
-  by_below p If r f h = tt
-  by_below p Device r f h = tt
-  by_below p Joined r f h = tt
-  by_below p Lay r f h = tt
-  by_below p Undo r f h = tt
-  by_below p Times r f h = tt
-  by_below p Block r f h = tt
-  by_below p Call r f h = tt
-  by_below p On r f h = tt
   by_below p (Number m) r f h = cond_both (ltb m r) _ _ (λ o. Told p (Number m) (on_number o f)) (λ e. h m e) (λ e. tt)
-  by_below p Open r f h = tt
-  by_below p Close r f h = tt
-  by_below p Semicolon r f h = tt
-  by_below p Other r f h = tt
+  by_below p u r f h = tt
 
   abbrev called_by : ℕ → Token
   called_by w =
@@ -170,24 +129,8 @@ module _ (n k : ℕ) (size : ℕ → ℕ) (fresh : Bool) (ns : List ℕ) where
       (cond (eqb w 11) Undo (cond (eqb w 12) Times (cond (eqb w 13) Block (cond (eqb w 14) Call (cond (eqb w 15) On (cond (eqb w 16) Open Close)))))))))))))))
 
   named-word : (u : Token) → (word u ≡ 8 → ⊥) → called_by (word u) ≡ u
-  named-word Turn h = refl
-  named-word Of h = refl
-  named-word Mix h = refl
-  named-word Flip h = refl
-  named-word If h = refl
-  named-word Device h = refl
-  named-word Joined h = refl
-  named-word Lay h = refl
-  named-word Undo h = refl
-  named-word Times h = refl
-  named-word Block h = refl
-  named-word Call h = refl
-  named-word On h = refl
   named-word (Number m) h = absurd (h refl)
-  named-word Open h = refl
-  named-word Close h = refl
-  named-word Semicolon h = refl
-  named-word Other h = refl
+  named-word u h = refl
 
   is_same : (u w : Token) → (word w ≡ 8 → ⊥) → is u w ≡ true → u ≡ w
   is_same u w ne e =
@@ -202,23 +145,14 @@ module _ (n k : ℕ) (size : ℕ → ℕ) (fresh : Bool) (ns : List ℕ) where
 
   pub tells : (p : Part) (u : Token) → FinePart p → Told p u (moved here p u)
   tells Start Turn h = (refl, refl, h)
-  tells Start Of h = tt
   tells Start Mix h = (refl, refl, h)
   tells Start Flip h = (refl, refl, h)
-  tells Start If h = tt
-  tells Start Device h = tt
-  tells Start Joined h = tt
-  tells Start Lay h = tt
   tells Start Undo h = (refl, refl, h)
-  tells Start Times h = tt
   tells Start Block h = cond_both fresh (move.Go BlockNumber) move.Refuse (Told Start Block) (λ e. (refl, refl, (h, e))) (λ e. tt)
   tells Start Call h = (refl, refl, h)
-  tells Start On h = tt
   tells Start (Number m) h = (refl, refl, h)
-  tells Start Open h = tt
   tells Start Close h = (refl, refl)
-  tells Start Semicolon h = tt
-  tells Start Other h = tt
+  tells Start u h = tt
   tells TurnBy u h = by_number TurnBy u _ (λ m. (refl, refl, h))
   tells (TurnOf m) u h = by_word (TurnOf m) u Of _ move.Refuse (λ q. omega arith) (refl, refl, h) tt
   tells (TurnQubit m) u h = by_below (TurnQubit m) u n _ (λ q e. (refl, refl, (h, (refl, (refl, (refl, (e, (refl, tt))))))))
@@ -243,22 +177,4 @@ module _ (n k : ℕ) (size : ℕ → ℕ) (fresh : Bool) (ns : List ℕ) where
 
   pub start_is : (p : Part) → is_start p ≡ true → so_far p ≡ []
   start_is Start e = refl
-  start_is TurnBy e = absurd (false≢true e)
-  start_is (TurnOf m) e = absurd (false≢true e)
-  start_is (TurnQubit m) e = absurd (false≢true e)
-  start_is MixQubit e = absurd (false≢true e)
-  start_is FlipQubit e = absurd (false≢true e)
-  start_is (FlipMore q) e = absurd (false≢true e)
-  start_is (FlipIf q) e = absurd (false≢true e)
-  start_is (FlipTwo c q) e = absurd (false≢true e)
-  start_is (Ends g) e = absurd (false≢true e)
-  start_is UndoOpens e = absurd (false≢true e)
-  start_is (TimesWord m) e = absurd (false≢true e)
-  start_is (TimesOpens m) e = absurd (false≢true e)
-  start_is CallBlock e = absurd (false≢true e)
-  start_is (CallOn b) e = absurd (false≢true e)
-  start_is (Naming b) e = absurd (false≢true e)
-  start_is BlockNumber e = absurd (false≢true e)
-  start_is BlockOf e = absurd (false≢true e)
-  start_is BlockSize e = absurd (false≢true e)
-  start_is (BlockOpens m) e = absurd (false≢true e)
+  start_is p e = absurd (false≢true e)

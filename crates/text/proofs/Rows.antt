@@ -1,19 +1,21 @@
 -- Rows that are kept up to a limit.
-use Rattle.std.proofs.Common.{◌≡◌, ℕ, zero, suc, ◌+◌, ◌-◌, ◌*◌, ◌<◌, ◌≤◌, true, false, List, [], ◌∷◌, ◌++◌, length, get_or, take, drop, Some, None, vec_items, sym, refl, ap, ◌∙◌, ⊎_elim, append_assoc, append-nil, suc-mul, mul_comm, add-one, arith, length-append}
-use Rattle.std.proofs.lemmas.List.{drop_more, take_more}
+use Rattle.std.proofs.Common.{◌≡◌, ℕ, zero, suc, ◌+◌, ◌*◌, ◌<◌, ◌≤◌, max, false, List, [], ◌∷◌, ◌++◌, map, reverse, length, unwrap_or, fold, Some, None, sym, refl, ap, ◌∙◌, ⊎_elim, append_assoc, append-nil, suc-mul, mul_comm, add-one, arith, length-append}
+use Rattle.std.proofs.lemmas.List.{map-append, reverse-append}
+use Rattle.std.proofs.lemmas.List.Folds.{max_of_map}
 use Rattle.std.proofs.lemmas.Bool.{cases_lt, lt-leb, le-leb, cond-true, cond-false}
+use Rattle.std.specs.List.{reduce}
+use Rattle.std.specs.Ordering.{max_by_ordering, nat_cmp}
 use Rattle.circuit.specs.declared.gate.Gate.{Gate}
 use Rattle.laws.specs.Undo.{undone, backwards}
 use Rattle.laws.specs.Rename.{renamed, all_renamed}
 use Rattle.text.specs.declared.statement.Brace.{Brace}
 use Rattle.text.specs.declared.statement.Brace.TheVariants.{Undo, Times}
-use Rattle.text.specs.declared.row.Row.{Row as RowKept}
-use Rattle.text.specs.Program.{repeated}
-use Rattle.text.specs.Reading.{Row, capped, put, row_of, zero_times, made_of, factor, braced}
+use Rattle.text.specs.Program.{repeated, span}
+use Rattle.text.specs.Reading.{Row, capped, put, zero_times, made_of, factor, braced}
 
-pub repeated-more : (n : ℕ) (gs : List Gate) → repeated n gs ++ gs ≡ repeated (n + 1) gs
-repeated-more zero gs = sym (append-nil gs)
-repeated-more (suc n) gs = rw add-one (append_assoc gs (repeated n gs) gs ∙ ap (λ r. gs ++ r) (repeated-more n gs ∙ ap (λ k. repeated k gs) (add-one n)))
+pub repeated_more : (n : ℕ) (gs : List Gate) → repeated n gs ++ gs ≡ repeated (n + 1) gs
+repeated_more zero gs = sym (append-nil gs)
+repeated_more (suc n) gs = rw add-one (append_assoc gs (repeated n gs) gs ∙ ap (λ r. gs ++ r) (repeated_more n gs ∙ ap (λ k. repeated k gs) (add-one n)))
 
 length-repeated : (n : ℕ) (gs : List Gate) → length (repeated n gs) ≡ n * length gs
 length-repeated zero gs = omega arith
@@ -33,36 +35,24 @@ pub length_made_of : (b : Brace) (gs : List Gate) → length (made_of b gs) ≡ 
 length_made_of Undo gs = length-backwards gs ∙ omega arith
 length_made_of (Times n) gs = length-repeated n gs ∙ mul_comm n (length gs)
 
-backwards_cons : (g : Gate) (gs : List Gate) → backwards (g ∷ gs) ≡ backwards gs ++ undone g ∷ []
+-- what a reversed chain of gates gives
+pub backwards-is : (gs : List Gate) → map undone (reverse gs) ≡ backwards gs
 unfolding backwards
-backwards_cons g gs = refl
+backwards-is [] = refl
+backwards-is (g ∷ gs) = ap (map undone) (reverse-append (g ∷ []) gs) ∙ map-append undone (reverse gs) (g ∷ []) ∙ ap (λ r. r ++ undone g ∷ []) (backwards-is gs)
 
-pub backwards-more : (gs : List Gate) (i : ℕ) (d : Gate) → 0 < i → i ≤ length gs → backwards (drop i gs) ++ undone (get_or gs (i - 1) d) ∷ [] ≡ backwards (drop (i - 1) gs)
-backwards-more gs i d some h =
-    let back : i - 1 + 1 ≡ i = omega arith in
-    sym (ap backwards (drop_more gs (i - 1) d (omega arith)) ∙ backwards_cons (get_or gs (i - 1) d) (drop (i - 1 + 1) gs) ∙ ap (λ k. backwards (drop k gs) ++ undone (get_or gs (i - 1) d) ∷ []) back)
-
-renamed-append : (f : ℕ → ℕ) (gs hs : List Gate) → all_renamed f (gs ++ hs) ≡ all_renamed f gs ++ all_renamed f hs
+-- what a chain of gates with other qubits gives
+pub all_renamed-is : (f : ℕ → ℕ) (gs : List Gate) → map (renamed f) gs ≡ all_renamed f gs
 unfolding all_renamed
-renamed-append f [] hs = refl
-renamed-append f (g ∷ gs) hs = ap (λ r. renamed f g ∷ r) (renamed-append f gs hs)
+all_renamed-is f [] = refl
+all_renamed-is f (g ∷ gs) = ap (λ r. renamed f g ∷ r) (all_renamed-is f gs)
 
-renamed-one : (f : ℕ → ℕ) (g : Gate) → all_renamed f (g ∷ []) ≡ renamed f g ∷ []
-unfolding all_renamed
-renamed-one f g = refl
+spanned : (n : ℕ) (qs : List ℕ) → fold (λ a q. max a (q + 1)) n qs ≡ max n (span qs)
+spanned n [] = omega arith
+spanned n (q ∷ qs) = spanned (max n (q + 1)) qs ∙ omega arith
 
-pub renamed-none : (f : ℕ → ℕ) → all_renamed f [] ≡ []
-unfolding all_renamed
-renamed-none f = refl
-
-pub renamed-more : (f : ℕ → ℕ) (gs : List Gate) (i : ℕ) (d : Gate) → i < length gs → all_renamed f (take (i + 1) gs) ≡ all_renamed f (take i gs) ++ renamed f (get_or gs i d) ∷ []
-renamed-more f gs i d h = ap (all_renamed f) (take_more gs i d h) ∙ renamed-append f (take i gs) (get_or gs i d ∷ []) ∙ ap (λ r. all_renamed f (take i gs) ++ r) (renamed-one f (get_or gs i d))
-
-pub row_good : (r : RowKept) → r.over ≡ false → row_of r ≡ Some (vec_items r.gates)
-row_good r h = cond-false _ _ _ h
-
-pub row-over : (r : RowKept) → r.over ≡ true → row_of r ≡ None
-row-over r h = cond-true _ _ _ h
+pub span-is : (qs : List ℕ) → unwrap_or (reduce (λ p z. max_by_ordering (nat_cmp p z) p z) (map (λ q. q + 1) qs)) 0 ≡ span qs
+span-is qs = max_of_map (λ q. q + 1) qs ∙ spanned 0 qs ∙ omega arith
 
 module _ (limit : ℕ) where
   pub cap_fits : (gs : List Gate) → length gs ≤ limit → capped limit gs ≡ Some gs
@@ -108,3 +98,6 @@ module _ (limit : ℕ) where
 
   pub braced-put : (b : Brace) (r s : Row) → zero_times b ≡ false → braced limit b r s ≡ put limit (made_of b) r s
   braced-put b r s e = cond-false _ _ _ e
+
+-- what becomes of a row, by its length
+pub ruleset row_lengths = (length-renamed, put-over, put_good, braced-put)

@@ -201,11 +201,8 @@ module _ (limit : ℕ) where
 
   abbrev pub fresh-after : Program → Bool → Bool
   fresh-after nothing f = f
-  fresh-after (gate g) f = false
   fresh-after (next p q) f = fresh-after q (fresh-after p f)
-  fresh-after (times n p) f = false
-  fresh-after (undo p) f = false
-  fresh-after (call k qs) f = false
+  fresh-after p f = false
 
   module _ (ks : List Known) where
     -- after x, read from the sign i on
@@ -218,12 +215,8 @@ module _ (limit : ℕ) where
     fits_after hs x (call k qs) fits i = fit-after hs (capped limit (x ++ flat ks (call k qs))) (i + length (written (call k qs))) fits
 
     fits-still : (h : Held) (hs : List Held) (x : List Gate) (p : Program) (fits i : ℕ) → fits_after (h ∷ hs) x p fits i ≡ fits
-    fits-still h hs x nothing fits i = refl
-    fits-still h hs x (gate g) fits i = refl
     fits-still h hs x (next p q) fits i = fits-still h hs (x ++ flat ks p) q (fits_after (h ∷ hs) x p fits i) (i + length (written p)) ∙ fits-still h hs x p fits i
-    fits-still h hs x (times n p) fits i = refl
-    fits-still h hs x (undo p) fits i = refl
-    fits-still h hs x (call k qs) fits i = refl
+    fits-still h hs x p fits i = refl
 
     module _ (inside : Option ℕ) where
       abbrev pub after : List Held → List Gate → Program → Bool → ℕ → ℕ → ℕ → State

@@ -11,45 +11,20 @@ use Rattle.text.specs.declared.statement.Move.TheVariants as move
 use Rattle.text.specs.declared.statement.Place.{Place}
 
 abbrev pub number_in : Token → Option ℕ
-number_in Turn = None
-number_in Of = None
-number_in Mix = None
-number_in Flip = None
-number_in If = None
-number_in Device = None
-number_in Joined = None
-number_in Lay = None
-number_in Undo = None
-number_in Times = None
-number_in Block = None
-number_in Call = None
-number_in On = None
 number_in (Number n) = Some n
-number_in Open = None
-number_in Close = None
-number_in Semicolon = None
-number_in Other = None
+number_in t = None
 
 -- what may begin a statement or a block, or end a row of statements
 abbrev pub begun : Place → Token → Move
 begun w Turn = move.Go TurnBy
-begun w Of = move.Refuse
 begun w Mix = move.Go MixQubit
 begun w Flip = move.Go FlipQubit
-begun w If = move.Refuse
-begun w Device = move.Refuse
-begun w Joined = move.Refuse
-begun w Lay = move.Refuse
 begun w Undo = move.Go UndoOpens
-begun w Times = move.Refuse
 begun w Block = cond w.fresh (move.Go BlockNumber) move.Refuse
 begun w Call = move.Go CallBlock
-begun w On = move.Refuse
 begun w (Number n) = move.Go (TimesWord n)
-begun w Open = move.Refuse
 begun w Close = move.Close
-begun w Semicolon = move.Refuse
-begun w Other = move.Refuse
+begun w t = move.Refuse
 
 -- a number below a bound
 abbrev pub below : ℕ → Option ℕ → Option ℕ

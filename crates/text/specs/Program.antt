@@ -5,8 +5,8 @@ use Rattle.circuit.specs.declared.gate.Gate.TheVariants.{Phase, Hadamard, Not, C
 use Rattle.circuit.specs.declared.refusal.Refusal.TheVariants as refusal
 use Rattle.laws.specs.Undo.{backwards}
 use Rattle.laws.specs.Rename.{all_renamed}
-use Rattle.text.specs.declared.error.ReadError.{ReadError}
-use Rattle.text.specs.declared.error.ReadError.TheVariants.{Memory, Refused}
+use Rattle.circuit.specs.declared.failure.Failure.{Failure}
+use Rattle.circuit.specs.declared.failure.Failure.TheVariants.{Memory, Refused}
 use Rattle.text.specs.declared.program.Circuit.{Circuit}
 use Rattle.text.specs.declared.token.Token.{Token}
 use Rattle.text.specs.declared.token.Token.TheVariants.{Turn, Of, Mix, Flip, If, Undo, Times, Block, Call, On, Number, Open, Close, Semicolon}
@@ -214,21 +214,14 @@ abbrev pub Refuses : ℕ → List Token → ℕ → Type 0
 Refuses limit ts i = Unread ts i ⊎ Over limit ts i
 
 -- what a reader answers to a text of these signs
-abbrev pub Answers : ℕ → List Token → Result Circuit ReadError → Type 0
+abbrev pub Answers : ℕ → List Token → Result Circuit Failure → Type 0
 Answers limit ts (Ok c) = (s : Says limit ts (vec_items c.gates)) × (c.qubits ≡ width s.source.program)
 Answers limit ts (Err Memory) = Unit {0}
-Answers limit ts (Err (Refused (refusal.Qubits p))) = ⊥
-Answers limit ts (Err (Refused (refusal.Length p))) = ⊥
-Answers limit ts (Err (Refused (refusal.Number p))) = ⊥
-Answers limit ts (Err (Refused (refusal.Gate p))) = ⊥
-Answers limit ts (Err (Refused (refusal.Layout p))) = ⊥
-Answers limit ts (Err (Refused (refusal.Device p))) = ⊥
-Answers limit ts (Err (Refused (refusal.Room p))) = ⊥
-Answers limit ts (Err (Refused (refusal.Mixes p))) = ⊥
 Answers limit ts (Err (Refused (refusal.Text i))) = Refuses limit ts i
+Answers limit ts (Err (Refused r)) = ⊥
 
 -- the same, to a text of these bytes
-abbrev pub AnswersText : ℕ → List ℕ → Result Circuit ReadError → Type 0
+abbrev pub AnswersText : ℕ → List ℕ → Result Circuit Failure → Type 0
 AnswersText limit bs r = (ts : List Token) → Spells bs ts → Answers limit ts r
 
 -- no text says two rows of gates, nor two numbers of qubits

@@ -1,15 +1,15 @@
 -- A reader's state, and what signs make of it.
-use Rattle.std.specs.Prelude.{◌≡◌, ℕ, zero, suc, ◌+◌, max, Bool, true, false, cond, ◌&&◌, List, [], ◌∷◌, ◌++◌, map, reverse, length, take, Some, None, Ok, Err, vec_items, Option, Result, ◌==◌, nat_le, nat_lt, slice_index, slice_index_or}
+use Rattle.std.specs.Prelude.{◌≡◌, ℕ, zero, suc, ◌+◌, max, Bool, true, false, cond, ◌&&◌, List, [], ◌∷◌, ◌++◌, map, reverse, length, take, Some, None, Ok, Err, vec_items, option_map, Option, Result, ◌==◌, nat_le, nat_lt, slice_index, slice_index_or}
 use Rattle.circuit.specs.declared.gate.Gate.{Gate}
 use Rattle.circuit.specs.declared.refusal.Refusal.{Refusal}
 use Rattle.circuit.specs.declared.refusal.Refusal.TheVariants.{Text}
 use Rattle.laws.specs.Undo.{backwards}
 use Rattle.laws.specs.Rename.{all_renamed}
 use Rattle.text.specs.declared.token.Token.{Token}
-use Rattle.text.specs.declared.error.ReadError.{ReadError}
-use Rattle.text.specs.declared.error.ReadError.TheVariants.{Memory, Refused}
+use Rattle.circuit.specs.declared.failure.Failure.{Failure}
+use Rattle.circuit.specs.declared.failure.Failure.TheVariants.{Memory, Refused}
 use Rattle.text.specs.declared.statement.Part.{Part}
-use Rattle.text.specs.declared.statement.Part.TheVariants.{Start, TurnBy, TurnOf, TurnQubit, MixQubit, FlipQubit, FlipMore, FlipIf, FlipTwo, Ends, UndoOpens, TimesWord, TimesOpens, CallBlock, CallOn, Naming, BlockNumber, BlockOf, BlockSize, BlockOpens}
+use Rattle.text.specs.declared.statement.Part.TheVariants.{Start, Naming}
 use Rattle.text.specs.declared.statement.Brace.{Brace}
 use Rattle.text.specs.declared.statement.Brace.TheVariants.{Undo, Times}
 use Rattle.text.specs.declared.statement.Move.{Move}
@@ -37,7 +37,7 @@ put limit f (Some gs) None = None
 put limit f (Some gs) (Some hs) = capped limit (gs ++ f hs)
 
 abbrev pub row_of : RowKept → Row
-row_of r = cond r.over None (Some (vec_items r.gates))
+row_of r = option_map vec_items r.gates
 
 -- a brace that is open: what it does with the row inside, and the row before it
 pub record Held : Type 0 where
@@ -85,6 +85,10 @@ place s = record { room = room_in s.inside; known = length s.blocks; fresh = s.f
 
 abbrev pub goes_to : Part → State → State
 goes_to p s = record { part = p; braces = s.braces; row = s.row; names = s.names; blocks = s.blocks; inside = s.inside; fresh = s.fresh; wide = s.wide; fits = s.fits }
+
+-- where a statement comes next, or a block too
+abbrev pub started : Bool → State → State
+started fresh s = record { part = Start; braces = s.braces; row = s.row; names = []; blocks = s.blocks; inside = s.inside; fresh = fresh; wide = s.wide; fits = s.fits }
 
 -- once a statement is over
 abbrev pub over_with : State → Row → ℕ → State
@@ -155,25 +159,7 @@ act limit s move.Refuse = None
 
 abbrev pub is_start : Part → Bool
 is_start Start = true
-is_start TurnBy = false
-is_start (TurnOf m) = false
-is_start (TurnQubit m) = false
-is_start MixQubit = false
-is_start FlipQubit = false
-is_start (FlipMore q) = false
-is_start (FlipIf q) = false
-is_start (FlipTwo c q) = false
-is_start (Ends g) = false
-is_start UndoOpens = false
-is_start (TimesWord n) = false
-is_start (TimesOpens n) = false
-is_start CallBlock = false
-is_start (CallOn k) = false
-is_start (Naming k) = false
-is_start BlockNumber = false
-is_start BlockOf = false
-is_start BlockSize = false
-is_start (BlockOpens n) = false
+is_start p = false
 
 abbrev pub no_braces : List Held → Bool
 no_braces [] = true
@@ -203,7 +189,7 @@ abbrev pub step : ℕ → ℕ → State → Token → Option State
 step limit at s t = settles at (act limit s (moved (place s) s.part t))
 
 -- what a call that took the sign at a place answers, by what the sign makes of the state
-abbrev pub Follows : {T : Type 0} → Result T ReadError → ℕ → State → Option State → Type 0
+abbrev pub Follows : {T : Type 0} → Result T Failure → ℕ → State → Option State → Type 0
 Follows (Ok x) at s o = o ≡ Some s
 Follows (Err Memory) at s o = Unit {0}
 Follows (Err (Refused r)) at s o = (r ≡ Text at) × (o ≡ None)
@@ -246,12 +232,12 @@ abbrev pub reading : ℕ → List Token → Result State Refusal
 reading limit ts = cond (nat_lt 4096 (length ts)) (overlong (runs limit begins 0 (take 4096 ts))) (finished (length ts) (runs limit begins 0 ts))
 
 -- what a reader answers, unless memory fails
-abbrev pub Runs : Result Reader ReadError → Result State Refusal → Type 0
+abbrev pub Runs : Result Reader Failure → Result State Refusal → Type 0
 Runs (Ok v) o = o ≡ Ok (view v)
 Runs (Err Memory) o = Unit {0}
 Runs (Err (Refused r)) o = o ≡ Err r
 
-abbrev pub Settles : State → Result Circuit ReadError → Type 0
+abbrev pub Settles : State → Result Circuit Failure → Type 0
 Settles s (Ok c) = (s.row ≡ Some (vec_items c.gates)) × (c.qubits ≡ s.wide)
 Settles s (Err Memory) = Unit {0}
 Settles s (Err (Refused r)) = (s.row ≡ None) × (r ≡ Text s.fits)

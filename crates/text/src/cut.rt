@@ -35,14 +35,11 @@ pub fn cut(heap: Global, text: &[u8], most: usize) -> Result<Vec<Token>, AllocEr
     let mut start = 0;
     for (i, b) in text.iter().enumerate() {
         let class = class_of(*b);
-        match class {
-            Class::Alphanumeric => {}
-            _ => {
-                put(&mut out, &text[start..i], class)?;
-                start = i + 1;
-                if out.len() > most {
-                    return Ok(out);
-                }
+        if class != Class::Alphanumeric {
+            put(&mut out, &text[start..i], class)?;
+            start = i + 1;
+            if out.len() > most {
+                return Ok(out);
             }
         }
     }

@@ -2,7 +2,6 @@
 #![tactic(auto)]
 
 mod cut;
-mod error;
 mod program;
 mod reader;
 mod row;
@@ -10,7 +9,6 @@ mod statement;
 mod token;
 
 pub use cut::{spells_one, tokenize};
-pub use error::ReadError;
 pub use program::{Circuit, calls_fall, read, refuses_one, says_one, says_or_refuses};
 pub use reader::{MOST_SIGNS, Reader, read_signs};
 pub use statement::{Part, Place};

@@ -2,9 +2,8 @@
 ghost use Rattle.text.specs.Program.{AnswersText, SaysOne, RefusesOne, SaysOrRefuses, CallsFall};
 
 use crate::cut::cut;
-use crate::error::ReadError;
 use crate::reader::{MOST_SIGNS, parse};
-use circuit::Gate;
+use circuit::{Failure, Gate};
 use std::alloc::Global;
 
 /// Gates in the order in which they are done, and how many qubits the text names.
@@ -15,7 +14,7 @@ pub struct Circuit {
 }
 
 /// The circuit that a text says, of at most `limit` gates. Only in a text that can be read are the gates counted.
-pub fn read(heap: Global, text: &[u8], limit: u64) -> Result<Circuit, ReadError>
+pub fn read(heap: Global, text: &[u8], limit: u64) -> Result<Circuit, Failure>
     ensures { AnswersText limit text.now result }
 {
     let tokens = cut(heap, text, MOST_SIGNS)?;

@@ -1,100 +1,43 @@
 //! Rows of gates, kept only up to a limit.
-ghost use Rattle.std.specs.Prelude.{◌≡◌, ◌+◌, ◌*◌, [], ◌∷◌, ◌++◌, Some, OnOk, slice_index};
-ghost use Rattle.laws.specs.Undo.{undone, backwards};
-ghost use Rattle.laws.specs.Rename.{renamed, all_renamed};
+ghost use Rattle.std.specs.Prelude.{◌≡◌, ◌+◌, [], ◌∷◌, ◌++◌, length, Some, OnOk, slice_index};
+ghost use Rattle.laws.specs.Undo.{backwards};
+ghost use Rattle.laws.specs.Rename.{all_renamed};
 ghost use Rattle.text.specs.Program.{repeated, span, reach};
-ghost use Rattle.text.specs.Reading.{row_of, put, factor, zero_times, made_of, braced};
+ghost use Rattle.text.specs.Reading.{row_of, put, zero_times, made_of, braced};
 
 use crate::statement::Brace;
 use circuit::Gate;
+use laws::{renamed, undone};
 use std::alloc::{AllocError, Global};
 
 /// One more than the largest qubit that a gate names.
 pub fn reach(gate: Gate) -> u64
     ensures { result ≡ reach gate }
 {
-    match gate {
-        Gate::Phase { qubit, .. } => u64::from(qubit) + 1,
-        Gate::Hadamard(qubit) => u64::from(qubit) + 1,
-        Gate::Not(qubit) => u64::from(qubit) + 1,
-        Gate::ControlledNot { control, target } => u64::from(control.max(target)) + 1,
+    let largest = match gate {
+        Gate::Phase { qubit, .. } | Gate::Hadamard(qubit) | Gate::Not(qubit) => qubit,
+        Gate::ControlledNot { control, target } => control.max(target),
         Gate::Toffoli {
             first,
             second,
             target,
-        } => u64::from(first.max(second).max(target)) + 1,
-    }
+        } => first.max(second).max(target),
+    };
+    u64::from(largest) + 1
 }
 
 /// One more than the largest of these qubits.
 pub fn span(qubits: &[u8]) -> u64
     ensures { result ≡ span qubits.now }
 {
-    let mut wide: u64 = 0;
-    for q in qubits {
-        wide = wide.max(u64::from(*q) + 1);
-    }
-    wide
-}
-
-fn undone(gate: Gate) -> Gate
-    ensures { result ≡ undone gate }
-{
-    match gate {
-        Gate::Phase { eighths, qubit } => Gate::Phase {
-            eighths: (7 * eighths as u16 % 8) as u8,
-            qubit,
-        },
-        _ => gate,
-    }
-}
-
-/// The qubit that `names` puts in for `q`.
-fn name_of(names: &[u8], q: u8) -> u8
-    ensures { result ≡ slice_index names.now q }
-{
-    if (q as usize) < names.len() {
-        names[q as usize]
-    } else {
-        0
-    }
-}
-
-/// A gate with the qubits `names` put in for 0, 1 and so on, all at once.
-fn renamed(gate: Gate, names: &[u8]) -> Gate
-    ensures { result ≡ renamed (λ q. slice_index names.now q) gate }
-{
-    match gate {
-        Gate::Phase { eighths, qubit } => Gate::Phase {
-            eighths,
-            qubit: name_of(names, qubit),
-        },
-        Gate::Hadamard(qubit) => Gate::Hadamard(name_of(names, qubit)),
-        Gate::Not(qubit) => Gate::Not(name_of(names, qubit)),
-        Gate::ControlledNot { control, target } => Gate::ControlledNot {
-            control: name_of(names, control),
-            target: name_of(names, target),
-        },
-        Gate::Toffoli {
-            first,
-            second,
-            target,
-        } => Gate::Toffoli {
-            first: name_of(names, first),
-            second: name_of(names, second),
-            target: name_of(names, target),
-        },
-    }
+    qubits.iter().map(|q| u64::from(*q) + 1).max().unwrap_or(0)
 }
 
 /// Puts what undoes `inner` at the end of `row`.
 fn append_undone(row: &mut Vec<Gate>, inner: &[Gate]) -> Result<(), AllocError>
     ensures { OnOk result (row.new.items ≡ row.old.items ++ backwards inner.now) }
 {
-    for i in (0..inner.len()).rev() {
-        row.push(undone(inner[i]))?;
-    }
-    Ok(())
+    row.extend(inner.iter().rev().map(|gate| undone(*gate)))
 }
 
 /// Puts `inner` at the end of `row`, `n` times.
@@ -111,10 +54,7 @@ fn append_times(row: &mut Vec<Gate>, inner: &[Gate], n: u8) -> Result<(), AllocE
 fn append_renamed(row: &mut Vec<Gate>, block: &[Gate], names: &[u8]) -> Result<(), AllocError>
     ensures { OnOk result (row.new.items ≡ row.old.items ++ all_renamed (λ q. slice_index names.now q) block.now) }
 {
-    for g in block {
-        row.push(renamed(*g, names))?;
-    }
-    Ok(())
+    row.extend(block.iter().map(|gate| renamed(*gate, names)))
 }
 
 impl Brace {
@@ -122,19 +62,17 @@ impl Brace {
     fn is_zero(self) -> bool
         ensures { result ≡ zero_times self }
     {
-        match self {
-            Brace::Times(0) => true,
-            _ => false,
-        }
+        matches!(self, Brace::Times(0))
     }
 
-    /// How long a row of `before` gates is once that of `inside` gates is put to it.
-    fn length(self, before: usize, inside: usize) -> u128
-        ensures { result ≡ before + inside * factor self }
+    /// How long `row` is with what comes of `inner` at its end.
+    #[tactic(auto, using(crate::proofs::Rows::length_made_of))]
+    fn length_with(self, row: &[Gate], inner: &[Gate]) -> u128
+        ensures { result ≡ length row.now + length (made_of self inner.now) }
     {
         match self {
-            Brace::Undo => before as u128 + inside as u128,
-            Brace::Times(n) => before as u128 + inside as u128 * n as u128,
+            Brace::Undo => row.len() as u128 + inner.len() as u128,
+            Brace::Times(n) => row.len() as u128 + inner.len() as u128 * u128::from(n),
         }
     }
 
@@ -148,11 +86,10 @@ impl Brace {
     }
 }
 
-/// The gates that statements say, or only that they are more than the limit: then the gates that are kept mean nothing.
+/// The gates that statements say, or none if they are more than the limit.
 #[derive(Drop)]
 pub struct Row {
-    pub gates: Vec<Gate>,
-    pub over: bool,
+    pub gates: Option<Vec<Gate>>,
 }
 
 impl Row {
@@ -160,45 +97,49 @@ impl Row {
         ensures { row_of result ≡ Some [] }
     {
         Row {
-            gates: Vec::new(heap),
-            over: false,
+            gates: Some(Vec::new(heap)),
         }
     }
 
     pub fn push(&mut self, limit: u64, gate: Gate) -> Result<(), AllocError>
         ensures { OnOk result (row_of self.new ≡ put limit (λ hs. gate ∷ hs) (row_of self.old) (Some [])) }
     {
-        if self.over {
+        let Some(gates) = &mut self.gates else {
+            return Ok(());
+        };
+        if gates.len() as u64 >= limit {
+            self.gates = None;
             return Ok(());
         }
-        if self.gates.len() as u64 >= limit {
-            self.over = true;
-            return Ok(());
-        }
-        self.gates.push(gate)?;
+        gates.push(gate)?;
         Ok(())
     }
 
+    // This and `append_renamed` would share a function that takes the step as a closure, whose contract is longer than what they share.
     /// Puts what a pair of braces makes of the row inside at the end.
+    #[tactic(auto, using(crate::proofs::Rows::row_lengths))]
     pub fn append(&mut self, limit: u64, brace: Brace, inner: &Row) -> Result<(), AllocError>
         ensures { OnOk result (row_of self.new ≡ braced limit brace (row_of self.old) (row_of inner.now)) }
     {
-        if self.over || brace.is_zero() {
+        if brace.is_zero() {
             return Ok(());
         }
-        if inner.over {
-            self.over = true;
+        let Some(gates) = &mut self.gates else {
+            return Ok(());
+        };
+        let Some(inside) = &inner.gates else {
+            self.gates = None;
+            return Ok(());
+        };
+        if brace.length_with(gates, inside) > u128::from(limit) {
+            self.gates = None;
             return Ok(());
         }
-        if brace.length(self.gates.len(), inner.gates.len()) > limit as u128 {
-            self.over = true;
-            return Ok(());
-        }
-        brace.append(&mut self.gates, &inner.gates)?;
-        Ok(())
+        brace.append(gates, inside)
     }
 
     /// Puts the row of a block at the end, with `names` in the place of the block's qubits.
+    #[tactic(auto, using(crate::proofs::Rows::row_lengths))]
     pub fn append_renamed(
         &mut self,
         limit: u64,
@@ -207,18 +148,17 @@ impl Row {
     ) -> Result<(), AllocError>
         ensures { OnOk result (row_of self.new ≡ put limit (all_renamed (λ q. slice_index names.now q)) (row_of self.old) (row_of block.now)) }
     {
-        if self.over {
+        let Some(gates) = &mut self.gates else {
+            return Ok(());
+        };
+        let Some(inside) = &block.gates else {
+            self.gates = None;
+            return Ok(());
+        };
+        if gates.len().saturating_add(inside.len()) as u64 > limit {
+            self.gates = None;
             return Ok(());
         }
-        if block.over {
-            self.over = true;
-            return Ok(());
-        }
-        if self.gates.len().saturating_add(block.gates.len()) as u64 > limit {
-            self.over = true;
-            return Ok(());
-        }
-        append_renamed(&mut self.gates, &block.gates, names)?;
-        Ok(())
+        append_renamed(gates, inside, names)
     }
 }

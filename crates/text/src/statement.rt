@@ -1,12 +1,13 @@
 //! Statements and blocks, sign by sign: what may come next, and what it does.
 ghost use Rattle.std.specs.Prelude.{◌≡◌, nat_lt};
+ghost use Rattle.text.specs.declared.token.Token.TheVariants.{Number};
 ghost use Rattle.text.specs.Move.{begun, moved};
 
 use crate::token::Token;
 use circuit::Gate;
 
 /// What has been read of the statement that is not over.
-#[derive(Clone, Copy)]
+#[derive(Clone, Copy, PartialEq, Eq, Debug)]
 pub enum Part {
     Start,
     TurnBy,
@@ -32,14 +33,14 @@ pub enum Part {
 }
 
 /// What a pair of braces does with the row inside.
-#[derive(Clone, Copy)]
+#[derive(Clone, Copy, PartialEq, Eq, Debug)]
 pub enum Brace {
     Undo,
     Times(u8),
 }
 
-/// What one more sign does.
-#[derive(Clone, Copy)]
+/// What one more sign does. A refusal is one of the moves, as in `moved`: as a None, it would put each other move in a Some.
+#[derive(Clone, Copy, PartialEq, Eq, Debug)]
 pub enum Move {
     Go(Part),
     Say(Gate),
@@ -54,24 +55,24 @@ pub enum Move {
 }
 
 /// Where a statement stands: how many qubits there are, how many blocks can be called, and whether one more block may come.
-#[derive(Clone, Copy)]
+#[derive(Clone, Copy, PartialEq, Eq, Debug)]
 pub struct Place {
     pub room: u16,
     pub known: usize,
     pub fresh: bool,
 }
 
-fn begin(w: Place, t: Token) -> Move
-    ensures { result ≡ begun w t }
+fn begin(place: Place, token: Token) -> Move
+    ensures { result ≡ begun place token }
 {
-    match t {
+    match token {
         Token::Turn => Move::Go(Part::TurnBy),
         Token::Mix => Move::Go(Part::MixQubit),
         Token::Flip => Move::Go(Part::FlipQubit),
         Token::Undo => Move::Go(Part::UndoOpens),
         Token::Number(n) => Move::Go(Part::TimesWord(n)),
         Token::Call => Move::Go(Part::CallBlock),
-        Token::Block if w.fresh => Move::Go(Part::BlockNumber),
+        Token::Block if place.fresh => Move::Go(Part::BlockNumber),
         Token::Close => Move::Close,
         _ => Move::Refuse,
     }
@@ -82,54 +83,58 @@ impl Place {
     fn has(self, q: u8) -> bool
         ensures { result ≡ nat_lt q self.room }
     {
-        (q as u16) < self.room
+        u16::from(q) < self.room
     }
 }
 
-/// What the sign `t` does where the part `p` of a statement has been read.
-pub fn next(w: Place, p: Part, t: Token) -> Move
-    ensures { result ≡ moved w p t }
+/// What the number `n` does where the part of a statement has been read.
+fn take_number(place: Place, part: Part, n: u8) -> Move
+    ensures { result ≡ moved place part (Number n) }
 {
-    match (p, t) {
-        (Part::Start, _) => begin(w, t),
-        (Part::TurnBy, Token::Number(eighths)) => Move::Go(Part::TurnOf(eighths)),
-        (Part::TurnOf(eighths), Token::Of) => Move::Go(Part::TurnQubit(eighths)),
-        (Part::TurnQubit(eighths), Token::Number(qubit)) if w.has(qubit) => Move::Go(Part::Ends(
-            Gate::Phase { eighths, qubit },
-        )),
-        (Part::MixQubit, Token::Number(qubit)) if w.has(qubit) => Move::Go(Part::Ends(
-            Gate::Hadamard(qubit),
-        )),
-        (Part::FlipQubit, Token::Number(target)) if w.has(target) => Move::Go(Part::FlipMore(
+    match part {
+        Part::Start => Move::Go(Part::TimesWord(n)),
+        Part::TurnBy => Move::Go(Part::TurnOf(n)),
+        Part::TurnQubit(eighths) if place.has(n) => Move::Go(Part::Ends(Gate::Phase {
+            eighths,
+            qubit: n,
+        })),
+        Part::MixQubit if place.has(n) => Move::Go(Part::Ends(Gate::Hadamard(n))),
+        Part::FlipQubit if place.has(n) => Move::Go(Part::FlipMore(n)),
+        Part::FlipIf(target) if place.has(n) => Move::Go(Part::FlipTwo(n, target)),
+        Part::FlipTwo(first, target) if place.has(n) => Move::Go(Part::Ends(Gate::Toffoli {
+            first,
+            second: n,
             target,
-        )),
+        })),
+        Part::CallBlock if usize::from(n) < place.known => Move::Go(Part::CallOn(n)),
+        Part::Naming(k) if place.has(n) => Move::Name(k, n),
+        Part::BlockNumber if usize::from(n) == place.known => Move::Go(Part::BlockOf),
+        Part::BlockSize => Move::Go(Part::BlockOpens(n)),
+        _ => Move::Refuse,
+    }
+}
+
+/// What the sign does where the part of a statement has been read.
+pub fn next(place: Place, part: Part, token: Token) -> Move
+    ensures { result ≡ moved place part token }
+{
+    match (part, token) {
+        (_, Token::Number(n)) => take_number(place, part, n),
+        (Part::Start, _) => begin(place, token),
+        (Part::TurnOf(eighths), Token::Of) => Move::Go(Part::TurnQubit(eighths)),
         (Part::FlipMore(target), Token::Semicolon) => Move::Say(Gate::Not(target)),
         (Part::FlipMore(target), Token::If) => Move::Go(Part::FlipIf(target)),
-        (Part::FlipIf(target), Token::Number(control)) if w.has(control) => Move::Go(Part::FlipTwo(
-            control, target,
-        )),
         (Part::FlipTwo(control, target), Token::Semicolon) => Move::Say(Gate::ControlledNot {
             control,
             target,
         }),
-        (Part::FlipTwo(first, target), Token::Number(second)) if w.has(second) => Move::Go(
-            Part::Ends(Gate::Toffoli {
-                first,
-                second,
-                target,
-            }),
-        ),
         (Part::Ends(gate), Token::Semicolon) => Move::Say(gate),
         (Part::UndoOpens, Token::Open) => Move::Open(Brace::Undo),
         (Part::TimesWord(n), Token::Times) => Move::Go(Part::TimesOpens(n)),
         (Part::TimesOpens(n), Token::Open) => Move::Open(Brace::Times(n)),
-        (Part::CallBlock, Token::Number(k)) if (k as usize) < w.known => Move::Go(Part::CallOn(k)),
         (Part::CallOn(k), Token::On) => Move::Go(Part::Naming(k)),
         (Part::Naming(k), Token::Semicolon) => Move::Call(k),
-        (Part::Naming(k), Token::Number(q)) if w.has(q) => Move::Name(k, q),
-        (Part::BlockNumber, Token::Number(k)) if k as usize == w.known => Move::Go(Part::BlockOf),
         (Part::BlockOf, Token::Of) => Move::Go(Part::BlockSize),
-        (Part::BlockSize, Token::Number(n)) => Move::Go(Part::BlockOpens(n)),
         (Part::BlockOpens(n), Token::Open) => Move::Enter(n),
         _ => Move::Refuse,
     }

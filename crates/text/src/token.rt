@@ -1,5 +1,6 @@
 //! Signs, and how each is spelled.
-ghost use Rattle.std.specs.Prelude.{◌≡◌};
+ghost use Rattle.std.specs.Prelude.{◌≡◌, option_map};
+ghost use Rattle.std.specs.List.{find};
 ghost use Rattle.std.specs.Str.{bytes_eq};
 ghost use Rattle.text.specs.Cut.{one_more};
 ghost use Rattle.text.specs.Spelling.{class, number_of, word_of};
@@ -28,7 +29,7 @@ pub enum Token {
 }
 
 /// What a byte is to the signs: a part of a word, nothing, or a sign of its own.
-#[derive(Clone, Copy)]
+#[derive(Clone, Copy, PartialEq, Eq, Debug)]
 pub enum Class {
     Alphanumeric,
     Blank,
@@ -52,67 +53,51 @@ pub fn class_of(b: u8) -> Class
 fn one_more(n: u8, b: u8) -> Option<u8>
     ensures { result ≡ one_more n b }
 {
-    if b < b'0' || b > b'9' {
+    if !b.is_ascii_digit() {
         return None;
     }
-    let m = 10 * n as u16 + (b - b'0') as u16;
-    if m > 255 {
-        return None;
-    }
-    Some(m as u8)
+    n.checked_mul(10)?.checked_add(b - b'0')
 }
 
 /// A number up to 255, of digits alone.
 fn number(w: &[u8]) -> Token
     ensures { result ≡ number_of w.now }
 {
-    let mut n: u8 = 0;
-    for b in w {
-        let Some(m) = one_more(n, *b) else {
-            return Token::Other;
-        };
-        n = m;
-    }
-    Token::Number(n)
+    w.iter()
+        .try_fold(0, |n, b| one_more(n, *b))
+        .map_or(Token::Other, Token::Number)
 }
 
-fn same(a: &[u8], b: &[u8]) -> bool
-    ensures { result ≡ bytes_eq a.now b.now }
+/// The words of the language, each with the sign that it is.
+const WORDS: [(&[u8], Token); 13] = [
+    (b"turn", Token::Turn),
+    (b"of", Token::Of),
+    (b"mix", Token::Mix),
+    (b"flip", Token::Flip),
+    (b"if", Token::If),
+    (b"device", Token::Device),
+    (b"joined", Token::Joined),
+    (b"lay", Token::Lay),
+    (b"undo", Token::Undo),
+    (b"times", Token::Times),
+    (b"block", Token::Block),
+    (b"call", Token::Call),
+    (b"on", Token::On),
+];
+
+/// The sign of the first of these words that is `w`.
+fn look_up(words: &[(&[u8], Token)], w: &[u8]) -> Option<Token>
+    ensures { result ≡ option_map (λ e. e.1) (find (λ e. bytes_eq w.now e.0.now) words.now) }
 {
-    a == b
+    words
+        .iter()
+        .find(|(spelled, _)| w == *spelled)
+        .map(|(_, token)| *token)
 }
 
 /// The sign that a run of letters and digits is.
 pub fn word(w: &[u8]) -> Token
     ensures { result ≡ word_of w.now }
 {
-    if same(w, b"turn") {
-        Token::Turn
-    } else if same(w, b"of") {
-        Token::Of
-    } else if same(w, b"mix") {
-        Token::Mix
-    } else if same(w, b"flip") {
-        Token::Flip
-    } else if same(w, b"if") {
-        Token::If
-    } else if same(w, b"device") {
-        Token::Device
-    } else if same(w, b"joined") {
-        Token::Joined
-    } else if same(w, b"lay") {
-        Token::Lay
-    } else if same(w, b"undo") {
-        Token::Undo
-    } else if same(w, b"times") {
-        Token::Times
-    } else if same(w, b"block") {
-        Token::Block
-    } else if same(w, b"call") {
-        Token::Call
-    } else if same(w, b"on") {
-        Token::On
-    } else {
-        number(w)
-    }
+    look_up(&WORDS, w).unwrap_or_else(|| number(w))
 }

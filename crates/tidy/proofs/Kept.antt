@@ -10,7 +10,8 @@ use Rattle.circuit.specs.declared.gate.Gate.{Gate}
 use Rattle.circuit.specs.declared.gate.Gate.TheVariants.{Phase, Hadamard, Not, ControlledNot, Toffoli}
 use Rattle.laws.specs.Undo.{undone}
 use Rattle.tidy.proofs.Places.{changes}
-use Rattle.tidy.proofs.Twins.{both, either, twins_merge, backs_stand, reduces, idle_drops, turn_is}
+use Rattle.std.proofs.lemmas.Bool.{and_parts, or_cases}
+use Rattle.tidy.proofs.Twins.{twins_merge, backs_stand, reduces, idle_drops, turn_is}
 use Rattle.tidy.specs.Engine.{maybe, start, partner, put, placed, inserted, swept}
 use Rattle.tidy.specs.Rules.{rule, passed}
 use Rattle.tidy.specs.Table.{eighths, still, commutes, twin, merged, idle, reduced, backs}
@@ -145,7 +146,7 @@ still-mixed g e = ap mixed (turn_is g e)
 pub dropped : (t : ℕ) (g : Gate) (hs : List Gate) → idle g ≡ true → Kept t t (g ∷ hs) hs
 unfolding back mixes t_count
 dropped t g hs e =
-    plain (omega (arith, still-mixed g (both (still g) (eqb (eighths g % 8) 0) e).0)) (omega arith) (omega arith) (λ s b. ap (turned t) (idle_drops g e (back hs s) b)) (λ p o a. a.1)
+    plain (omega (arith, still-mixed g (and_parts (still g) (eqb (eighths g % 8) 0) e).0)) (omega arith) (omega arith) (λ s b. ap (turned t) (idle_drops g e (back hs s) b)) (λ p o a. a.1)
 
 mixed-reduced : (g : Gate) → mixed (reduced g) ≡ mixed g
 mixed-reduced (Phase m q) = refl
@@ -174,15 +175,12 @@ lessened t g hs =
     plain (omega (arith, mixed-reduced g)) (omega (arith, worth-reduced g)) (omega arith) (λ s b. ap (turned t) (sym (reduces g (back hs s) b))) (λ p o a. (fits-reduced p o g a.0, a.1))
 
 -- THE RULES ARE SOUND, and so is passing
-pub none-some : {A : Type 0} {a : A} {B : Type 0} → ◌≡◌ {A = Option A} None (Some a) → B
-none-some e = let z : ◌≡◌ {A = ℕ} 0 1 = cc in let w : ⊥ = omega arith in absurd w
-
 pub rule-kept : (t : ℕ) (h g k : Gate) (hs : List Gate) → rule h g ≡ Some k → Kept t t (g ∷ h ∷ hs) (k ∷ hs)
 rule-kept t h g k hs e = go (twin h g) refl e
   where
     go : (x : Bool) → twin h g ≡ x → cond x (Some (merged h g)) None ≡ Some k → Kept t t (g ∷ h ∷ hs) (k ∷ hs)
     go true u v = let w : merged h g ≡ k = cc in subst (λ x. Kept t t (g ∷ h ∷ hs) (x ∷ hs)) w (join t h g hs u)
-    go false u v = none-some v
+    go false u v = cc
 
 pub passed-kept : (h : Gate) (c d : Carried) (hs : List Gate) → passed h c ≡ Some d → Kept c.turn d.turn (c.gate ∷ h ∷ hs) (h ∷ d.gate ∷ hs)
 passed-kept h c d hs e = go (idle h || commutes h c.gate) (backs h c.gate) refl refl e
@@ -190,7 +188,7 @@ passed-kept h c d hs e = go (idle h || commutes h c.gate) (backs h c.gate) refl 
     go : (x y : Bool) → (idle h || commutes h c.gate) ≡ x → backs h c.gate ≡ y →
         cond x (Some c) (cond y (Some (record { gate = undone c.gate; turn = (c.turn + eighths c.gate) % 8 })) None) ≡ Some d →
         Kept c.turn d.turn (c.gate ∷ h ∷ hs) (h ∷ d.gate ∷ hs)
-    go true y u v w = let z : c ≡ d = cc in subst (λ (k : Carried). Kept c.turn k.turn (c.gate ∷ h ∷ hs) (h ∷ k.gate ∷ hs)) z (past (either (idle h) (commutes h c.gate) u))
+    go true y u v w = let z : c ≡ d = cc in subst (λ (k : Carried). Kept c.turn k.turn (c.gate ∷ h ∷ hs) (h ∷ k.gate ∷ hs)) z (past (or_cases (idle h) (commutes h c.gate) u))
       where
         past : (idle h ≡ true) ⊎ (commutes h c.gate ≡ true) → Kept c.turn c.turn (c.gate ∷ h ∷ hs) (h ∷ c.gate ∷ hs)
         past (inl i) = past_idle c.turn h c.gate hs i
@@ -198,7 +196,7 @@ passed-kept h c d hs e = go (idle h || commutes h c.gate) (backs h c.gate) refl 
     go false true u v w =
         let z : ◌≡◌ {A = Carried} (record { gate = undone c.gate; turn = (c.turn + eighths c.gate) % 8 }) d = cc in
         subst (λ (k : Carried). Kept c.turn k.turn (c.gate ∷ h ∷ hs) (h ∷ k.gate ∷ hs)) z (past_backs c.turn h c.gate hs v)
-    go false false u v w = none-some w
+    go false false u v w = cc
 
 -- what is found is before, and putting the two together keeps the circuit
 pub record Found (c : Carried) (hs : List Gate) (p : Partner) : Type 0 where
@@ -216,7 +214,7 @@ found_on c d h hs p e f =
 
 pub found : (c : Carried) (hs : List Gate) (p : Partner) → partner c hs ≡ Some p → Found c hs p
 unfolding partner
-found c [] p e = none-some e
+found c [] p e = cc
 found c (h ∷ hs) p e = step (rule h c.gate) (passed h c) refl refl e (λ d i. found d hs p i)
   where
     step : (x : Option Gate) (y : Option Carried) → rule h c.gate ≡ x → passed h c ≡ y →
@@ -225,7 +223,7 @@ found c (h ∷ hs) p e = step (rule h c.gate) (passed h c) refl refl e (λ d i. 
     step (Some k) y u v w ih =
         let z : ◌≡◌ {A = Partner} (record { at = length hs; gate = k; turn = c.turn }) p = cc in subst (Found c (h ∷ hs)) z (found_here c h k hs u)
     step None (Some d) u v w ih = found_on c d h hs p v (ih d w)
-    step None None u v w ih = none-some w
+    step None None u v w ih = cc
 
 -- from a turn of the whole that is there already
 shifted : (t u : ℕ) (c d : List Gate) → Kept 0 u c d → Kept t ((t + u) % 8) c d

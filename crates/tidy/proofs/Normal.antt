@@ -1,7 +1,8 @@
 -- A sweep that takes nothing away leaves a tidy circuit, and leaves a tidy circuit as it is.
-use Rattle.std.proofs.Common.{◌≡◌, ℕ, suc, ◌+◌, ◌%◌, ◌≤◌, Bool, true, false, cond, ◌||◌, eqb, List, [], ◌∷◌, ◌++◌, reverse, length, Some, None, Option, sym, refl, ap, ◌∙◌, subst, arith}
+use Rattle.std.proofs.Common.{◌≡◌, ℕ, suc, ◌+◌, ◌%◌, ◌≤◌, Bool, true, false, cond, eqb, List, [], ◌∷◌, ◌++◌, reverse, length, Some, None, Option, sym, refl, ap, ◌∙◌, subst, arith}
 use mathlib.Core.List.{reverse_aux, reverse_aux-append, reverse_aux-eq, reverse-reverse}
 use lib.ListN.{length-reverse}
+use Rattle.std.proofs.lemmas.Bool.{or_right}
 use Rattle.amplitude.proofs.RingLaws.{rooted_add, rooted_turned}
 use Rattle.amplitude.specs.Ring.{turned, rooted}
 use Rattle.circuit.proofs.Counts.{mixes-reverse}
@@ -9,7 +10,7 @@ use Rattle.circuit.specs.Circuit.{Row, State, run, mixes, t_count}
 use Rattle.circuit.specs.declared.gate.Gate.{Gate}
 use Rattle.circuit.specs.declared.gate.Gate.TheVariants.{Phase, Hadamard, Not, ControlledNot, Toffoli}
 use Rattle.tidy.proofs.Fits.{each_onto, fit-kept, can-kept}
-use Rattle.tidy.proofs.Kept.{Each, OfTargets, back, Kept, none-some}
+use Rattle.tidy.proofs.Kept.{Each, OfTargets, back, Kept}
 use Rattle.tidy.proofs.Twins.{twin-commutes}
 use Rattle.tidy.specs.Engine.{maybe, start, partner, put, placed, inserted, swept}
 use Rattle.tidy.specs.Promise.{Tidied, Settled, AllSettled, AllChange, NoRule, through, NoWay, NoRuleBefore}
@@ -92,20 +93,16 @@ swept_same t done (g ∷ gs) a =
 -- NO RULE APPLIES
 first-none : {B C : Type 0} (o : Option B) (f : B → C) (x : Option C) → maybe o (λ b. Some (f b)) x ≡ None → o ≡ None
 first-none None f x e = refl
-first-none (Some b) f x e = none-some (sym e)
+first-none (Some b) f x e = cc
 
 rule-none : (c : Carried) (h : Gate) (hs : List Gate) → partner c (h ∷ hs) ≡ None → rule h c.gate ≡ None
 unfolding partner
 rule-none c h hs e = first-none (rule h c.gate) (λ k. record { at = length hs; gate = k; turn = c.turn }) (maybe (passed h c) (λ d. partner d hs) None) e
 
-or-second : (x y : Bool) → y ≡ true → (x || y) ≡ true
-or-second true y e = refl
-or-second false y e = e
-
 back_none : (g h : Gate) (hs : List Gate) → commutes h g ≡ true → partner (start g) (h ∷ hs) ≡ None → partner (start g) hs ≡ None
 unfolding partner
 back_none g h hs e f =
-    let p : passed h (start g) ≡ Some (start g) = rw (or-second (idle h) (commutes h g) e) in
+    let p : passed h (start g) ≡ Some (start g) = rw (or_right (idle h) (commutes h g) e) in
     ap (λ o. maybe o (λ d. partner d hs) None) (sym p)
     ∙ ap (λ o. maybe o (λ k. Some (record { at = length hs; gate = k; turn = 0 })) (maybe (passed h (start g)) (λ d. partner d hs) None)) (sym (rule-none (start g) h hs f))
     ∙ f
@@ -130,9 +127,9 @@ way-none (k ∷ ms) hs c d h e f = step (rule k c.gate) (passed k c) e f (λ x u
         maybe x (λ r. Some (record { at = length (ms ++ (h ∷ hs)); gate = r; turn = c.turn })) (maybe y (λ b. partner b (ms ++ (h ∷ hs))) None) ≡ None →
         maybe y (λ b. through b ms) None ≡ Some d →
         ((b : Carried) → partner b (ms ++ (h ∷ hs)) ≡ None → through b ms ≡ Some d → rule h d.gate ≡ None) → rule h d.gate ≡ None
-    step (Some r) y u v ih = none-some (sym u)
+    step (Some r) y u v ih = cc
     step None (Some b) u v ih = ih b u v
-    step None None u v ih = none-some v
+    step None None u v ih = cc
 
 pub no_way : NoWay
 no_way a m e h g d t f =

@@ -1,13 +1,13 @@
 -- Two gates change places if neither flips a qubit that the other goes by.
 use Rattle.std.proofs.Common.{◌≡◌, ℕ, Bool, true, false, cond, not, ◌&&◌, eqb, sym, refl, ap, ◌∙◌, ap₂}
-use borrow.Author.Tests.{both_ways}
+use Rattle.std.proofs.lemmas.Bool.{and_parts, not-true, or_parts}
 use Rattle.amplitude.specs.declared.Amplitude.{Amplitude}
 use Rattle.circuit.proofs.Flips.{flipped_swap}
 use Rattle.circuit.proofs.Kernel.{keep, act, kern, does-is}
 use Rattle.circuit.specs.Circuit.{Row, State, flipped, does, target}
 use Rattle.circuit.specs.declared.gate.Gate.{Gate}
 use Rattle.circuit.specs.declared.gate.Gate.TheVariants.{Phase, Hadamard, Not, ControlledNot, Toffoli}
-use Rattle.laws.proofs.Places.{act-act, or-first, or-second, off}
+use Rattle.laws.proofs.Places.{act-act, off}
 use Rattle.tidy.specs.Rules.{Changes}
 use Rattle.tidy.specs.Table.{still, reads, hinders}
 
@@ -27,16 +27,14 @@ does-moved (ControlledNot c q) s b = does-is (ControlledNot c q) s b
 does-moved (Toffoli c d q) s b = does-is (Toffoli c d q) s b
 
 nor : (x y : Bool) → (not x && not y) ≡ true → (x ≡ false) × (y ≡ false)
-nor true y e = absurd (both_ways false refl e)
-nor false true e = absurd (both_ways false refl e)
-nor false false e = (refl, refl)
+nor x y e = let p = and_parts (not x) (not y) e in (not-true x p.0, not-true y p.1)
 
 kern_off : (g : Gate) (q : ℕ) (b : Row) → reads g q ≡ false → kern g (flipped q b) ≡ kern g b
 kern_off (Phase m p) q b e = rw (off q p b e)
 kern_off (Hadamard p) q b e = rw (off q p b e)
 kern_off (Not p) q b e = refl
 kern_off (ControlledNot c p) q b e = rw (off q c b e)
-kern_off (Toffoli c d p) q b e = rw (off q c b (or-first (eqb q c) (eqb q d) e), off q d b (or-second (eqb q c) (eqb q d) e))
+kern_off (Toffoli c d p) q b e = let p = or_parts (eqb q c) (eqb q d) e in rw (off q c b p.0, off q d b p.1)
 
 kern_at : (g : Gate) (t : Bool) (q : ℕ) (b : Row) → (not t && reads g q) ≡ false → kern g (cond t b (flipped q b)) ≡ kern g b
 kern_at g true q b e = refl

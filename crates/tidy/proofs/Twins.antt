@@ -1,6 +1,7 @@
 -- Twins, turns that go backwards past a flip, and turns by whole eights.
-use Rattle.std.proofs.Common.{◌≡◌, ℕ, zero, suc, ◌+◌, ◌*◌, ◌%◌, Bool, true, false, cond, not, ◌&&◌, ◌||◌, eqb, ◌⊎◌, sym, refl, ap, ◌∙◌, subst, ap₂, inl, inr, eqb-true}
-use borrow.Author.Tests.{eqb-false, both_ways}
+use Rattle.std.proofs.Common.{◌≡◌, ℕ, zero, suc, ◌+◌, ◌*◌, ◌%◌, Bool, true, false, cond, not, ◌&&◌, eqb, ◌⊎◌, sym, refl, ap, ◌∙◌, subst, inl, inr}
+use Rattle.std.proofs.Math.Bool.{or_comm}
+use Rattle.std.proofs.lemmas.Bool.{and_parts, eqb-false, eqb-true, not-true, or_cases}
 use Rattle.amplitude.proofs.RingLaws.{turned_add, turned_mod, turned-turned, turned_back, rooted_2}
 use Rattle.amplitude.specs.Ring.{turned, rooted}
 use Rattle.amplitude.specs.declared.Amplitude.{Amplitude}
@@ -28,40 +29,26 @@ shaped (Not q) = refl
 shaped (ControlledNot c q) = refl
 shaped (Toffoli c d q) = refl
 
-pub both : (x y : Bool) → (x && y) ≡ true → (x ≡ true) × (y ≡ true)
-both true y e = (refl, e)
-both false y e = absurd (both_ways false refl e)
-
-pub either : (x y : Bool) → (x || y) ≡ true → (x ≡ true) ⊎ (y ≡ true)
-either true y e = inl refl
-either false y e = inr e
-
 -- h is g, with eighths of its own, and maybe its controls the other way round
 like : (h g : Gate) → twin h g ≡ true →
     (proper g ≡ true) × ((h ≡ shape (kind g) (eighths h) (target g) (control g) (other_control g)) ⊎ (h ≡ shape (kind g) (eighths h) (target g) (other_control g) (control g)))
-like h g e = (r.0, go (either (eqb (control h) (control g) && eqb (other_control h) (other_control g)) (eqb (control h) (other_control g) && eqb (other_control h) (control g)) r.1))
+like h g e =
+    let p = and_parts (eqb (kind h) (kind g)) _ e in
+    let q = and_parts (eqb (target h) (target g)) _ p.1 in
+    let r = and_parts (proper g) _ q.1 in
+    (r.0, go (eqb-true (kind h) (kind g) p.0) (eqb-true (target h) (target g) q.0) (or_cases (eqb (control h) (control g) && eqb (other_control h) (other_control g)) (eqb (control h) (other_control g) && eqb (other_control h) (control g)) r.1))
   where
-    p : (eqb (kind h) (kind g) ≡ true) × ((eqb (target h) (target g) && (proper g && ((eqb (control h) (control g) && eqb (other_control h) (other_control g)) || (eqb (control h) (other_control g) && eqb (other_control h) (control g))))) ≡ true)
-    p = both (eqb (kind h) (kind g)) _ e
+    with : kind h ≡ kind g → target h ≡ target g → (c d : ℕ) → (eqb (control h) c && eqb (other_control h) d) ≡ true → h ≡ shape (kind g) (eighths h) (target g) c d
+    with k t c d u =
+        let v = and_parts (eqb (control h) c) (eqb (other_control h) d) u in
+        let m = eqb-true (control h) c v.0 in
+        let n = eqb-true (other_control h) d v.1 in
+        shaped h ∙ cc
 
-    q : (eqb (target h) (target g) ≡ true) × ((proper g && ((eqb (control h) (control g) && eqb (other_control h) (other_control g)) || (eqb (control h) (other_control g) && eqb (other_control h) (control g)))) ≡ true)
-    q = both (eqb (target h) (target g)) _ p.1
-
-    r : (proper g ≡ true) × (((eqb (control h) (control g) && eqb (other_control h) (other_control g)) || (eqb (control h) (other_control g) && eqb (other_control h) (control g))) ≡ true)
-    r = both (proper g) _ q.1
-
-    with : (c d : ℕ) → (eqb (control h) c && eqb (other_control h) d) ≡ true → h ≡ shape (kind g) (eighths h) (target g) c d
-    with c d u =
-        let v = both (eqb (control h) c) (eqb (other_control h) d) u in
-        shaped h
-        ∙ ap (λ k. shape k (eighths h) (target h) (control h) (other_control h)) (eqb-true (kind h) (kind g) p.0)
-        ∙ ap (λ k. shape (kind g) (eighths h) k (control h) (other_control h)) (eqb-true (target h) (target g) q.0)
-        ∙ ap₂ (λ k l. shape (kind g) (eighths h) (target g) k l) (eqb-true (control h) c v.0) (eqb-true (other_control h) d v.1)
-
-    go : ((eqb (control h) (control g) && eqb (other_control h) (other_control g)) ≡ true) ⊎ ((eqb (control h) (other_control g) && eqb (other_control h) (control g)) ≡ true) →
+    go : kind h ≡ kind g → target h ≡ target g → ((eqb (control h) (control g) && eqb (other_control h) (other_control g)) ≡ true) ⊎ ((eqb (control h) (other_control g) && eqb (other_control h) (control g)) ≡ true) →
         (h ≡ shape (kind g) (eighths h) (target g) (control g) (other_control g)) ⊎ (h ≡ shape (kind g) (eighths h) (target g) (other_control g) (control g))
-    go (inl u) = inl (with (control g) (other_control g) u)
-    go (inr u) = inr (with (other_control g) (control g) u)
+    go k t (inl u) = inl (with k t (control g) (other_control g) u)
+    go k t (inr u) = inr (with k t (other_control g) (control g) u)
 
 phased : (t : Bool) (m n : ℕ) (x : Amplitude) → cond t (turned n (cond t (turned m x) x)) (cond t (turned m x) x) ≡ cond t (turned ((m + n) % 8) x) x
 phased true m n x = turned-turned n m x ∙ sym (turned_add m n x) ∙ sym (turned_mod (m + n) x)
@@ -79,11 +66,7 @@ nought-turn true x = refl
 nought-turn false x = refl
 
 unequal : (c q : ℕ) → not (eqb c q) ≡ true → c ≡ q → ⊥
-unequal c q e = eqb-false c q (go (eqb c q) e)
-  where
-    go : (t : Bool) → not t ≡ true → t ≡ false
-    go true u = absurd (both_ways false refl u)
-    go false u = refl
+unequal c q e = eqb-false c q (not-true (eqb c q) e)
 
 abbrev After : Gate → State → Row → Gate → Type 0
 After g s b h = does g (does h s) b ≡ rooted (mixed h + mixed g) (does (merged h g) s b)
@@ -97,7 +80,7 @@ twice (Not q) m s b h = ap s (flipped_twice q b) ∙ sym (nought-turn (b q) (s b
 twice (ControlledNot c q) m s b h =
     rw (flipped_off q c b (unequal c q h)) (ifs (b c) (s b) (s (flipped q b)) (s (flipped q (flipped q b))) (ap s (flipped_twice q b)) ∙ sym (nought-turn (b q) (s b)))
 twice (Toffoli c d q) m s b h =
-    let k = both (not (eqb c q)) (not (eqb d q)) h in
+    let k = and_parts (not (eqb c q)) (not (eqb d q)) h in
     rw (flipped_off q c b (unequal c q k.0), flipped_off q d b (unequal d q k.1)) (ifs (b c && b d) (s b) (s (flipped q b)) (s (flipped q (flipped q b))) (ap s (flipped_twice q b)) ∙ sym (nought-turn (b q) (s b)))
 
 crossed : (g : Gate) (m : ℕ) (s : State) (b : Row) → proper g ≡ true → After g s b (shape (kind g) m (target g) (other_control g) (control g))
@@ -107,7 +90,7 @@ crossed (Hadamard q) m s b h = twice (Hadamard q) m s b h
 crossed (Not q) m s b h = twice (Not q) m s b h
 crossed (ControlledNot c q) m s b h = twice (ControlledNot c q) m s b h
 crossed (Toffoli c d q) m s b h =
-    let k = both (not (eqb c q)) (not (eqb d q)) h in
+    let k = and_parts (not (eqb c q)) (not (eqb d q)) h in
     rw (flipped_off q c b (unequal c q k.0), flipped_off q d b (unequal d q k.1)) (ifs_swap (b c) (b d) (s b) (s (flipped q b)) (s (flipped q (flipped q b))) (ap s (flipped_twice q b)) ∙ sym (nought-turn (b q) (s b)))
 
 pub twins_merge : TwinsMerge
@@ -120,10 +103,10 @@ twins_merge h g e s b = go (like h g e).1
 -- a turn, by its test
 pub turn_is : (g : Gate) → still g ≡ true → g ≡ Phase (eighths g) (target g)
 turn_is (Phase m q) e = refl
-turn_is (Hadamard q) e = absurd (both_ways false refl e)
-turn_is (Not q) e = absurd (both_ways false refl e)
-turn_is (ControlledNot c q) e = absurd (both_ways false refl e)
-turn_is (Toffoli c d q) e = absurd (both_ways false refl e)
+turn_is (Hadamard q) e = cc
+turn_is (Not q) e = cc
+turn_is (ControlledNot c q) e = cc
+turn_is (Toffoli c d q) e = cc
 
 backwards : (t : Bool) (m : ℕ) (x : Amplitude) → cond t (turned m x) x ≡ turned m (cond (not t) (turned ((7 * m) % 8) x) x)
 backwards true m x = refl
@@ -135,13 +118,13 @@ backs_stand h g e s b =
     rw (is-not, turn) (rw (flipped-at (target g) b) (backwards (b (target g)) (eighths g) (s (flipped (target g) b))))
   where
     p : (eqb (kind h) 2 ≡ true) × ((still g && eqb (target h) (target g)) ≡ true)
-    p = both (eqb (kind h) 2) (still g && eqb (target h) (target g)) e
+    p = and_parts (eqb (kind h) 2) (still g && eqb (target h) (target g)) e
 
     turn : g ≡ Phase (eighths g) (target g)
-    turn = turn_is g (both (still g) (eqb (target h) (target g)) p.1).0
+    turn = turn_is g (and_parts (still g) (eqb (target h) (target g)) p.1).0
 
     is-not : h ≡ Not (target g)
-    is-not = shaped h ∙ ap (λ k. shape k (eighths h) (target h) (control h) (other_control h)) (eqb-true (kind h) 2 p.0) ∙ ap Not (eqb-true (target h) (target g) (both (still g) (eqb (target h) (target g)) p.1).1)
+    is-not = shaped h ∙ ap (λ k. shape k (eighths h) (target h) (control h) (other_control h)) (eqb-true (kind h) 2 p.0) ∙ ap Not (eqb-true (target h) (target g) (and_parts (still g) (eqb (target h) (target g)) p.1).1)
 
 reduced-at : (t : Bool) (m : ℕ) (x : Amplitude) → cond t (turned (m % 8) x) x ≡ cond t (turned m x) x
 reduced-at true m x = turned_mod m x
@@ -161,16 +144,10 @@ idle-at m q s b e = sym (reduced-at (b q) m (s b)) ∙ ap (λ k. cond (b q) (tur
 
 pub idle_drops : IdleDrops
 idle_drops g e s b =
-    let p = both (still g) (eqb (eighths g % 8) 0) e in
+    let p = and_parts (still g) (eqb (eighths g % 8) 0) e in
     ap (λ (h : Gate). does h s b) (turn_is g p.0) ∙ idle-at (eighths g) (target g) s b (eqb-true (eighths g % 8) 0 p.1)
 
 -- what changes places with a gate does so with its twin
-or_swap : (x y : Bool) → (x || y) ≡ (y || x)
-or_swap true true = refl
-or_swap true false = refl
-or_swap false true = refl
-or_swap false false = refl
-
 shape_same : (k g : Gate) (m : ℕ) → commutes k (shape (kind g) m (target g) (control g) (other_control g)) ≡ commutes k g
 shape_same k (Phase n q) m = refl
 shape_same k (Hadamard q) m = refl
@@ -184,7 +161,7 @@ shape_crossed k (Hadamard q) m = refl
 shape_crossed k (Not q) m = refl
 shape_crossed k (ControlledNot c q) m = refl
 shape_crossed k (Toffoli c d q) m =
-    ap (λ (x : Bool). not (not (still k) && x) && not (hinders (Toffoli c d q) k)) (or_swap (eqb (target k) d) (eqb (target k) c))
+    ap (λ (x : Bool). not (not (still k) && x) && not (hinders (Toffoli c d q) k)) (or_comm (eqb (target k) d) (eqb (target k) c))
 
 pub twin-commutes : (k h g : Gate) → twin h g ≡ true → commutes k h ≡ commutes k g
 twin-commutes k h g e = go (like h g e).1

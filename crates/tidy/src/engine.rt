@@ -3,7 +3,7 @@ ghost use Rattle.std.specs.Prelude.{◌≡◌, ◌+◌, ◌<◌, ◌≤◌, [], 
 ghost use Rattle.tidy.specs.Engine.{inserted, partner, start, swept};
 
 use crate::rules::{Carried, passed, rule};
-use crate::table::{idle, reduced};
+use crate::table::{idle, reduced, sum_of_turns};
 use circuit::Gate;
 
 /// Where a gate's partner stands, what the two become, and the turn of the whole on the way.
@@ -14,38 +14,35 @@ pub struct Partner {
     pub turn: u8,
 }
 
-/// How many gates there are, and the turn of the whole.
+/// How many gates there are at the front of what was lent, and the turn of the whole.
 #[derive(Clone, Copy)]
 pub struct Outcome {
     pub len: usize,
     pub turn: u8,
 }
 
-/// The partner of a gate among the first gates of a circuit.
-pub fn find(gates: &[Gate], len: usize, gate: Gate) -> Option<Partner>
-    requires { len ≤ length gates.now }
-    ensures found { result ≡ partner (start gate) (reverse (take len gates.now)) }
-    ensures below { IfSome result (λ p. p.at < len) }
+/// The partner of a gate that comes after those of a circuit.
+#[tactic(auto, using(crate::proofs::Walk::partner_back), unfolding(crate::specs::Engine::partner))]
+pub fn find(gates: &[Gate], gate: Gate) -> Option<Partner>
+    ensures found { result ≡ partner (start gate) (reverse gates.now) }
+    ensures below { IfSome result (λ p. p.at < length gates.now) }
 {
     let mut carried = Carried { gate, turn: 0 };
-    for i in (0..len).rev() {
-        let before = gates[i];
-        if let Some(gate) = rule(before, carried.gate) {
+    for (at, before) in gates.iter().enumerate().rev() {
+        if let Some(gate) = rule(*before, carried.gate) {
             return Some(Partner {
-                at: i,
+                at,
                 gate,
                 turn: carried.turn,
             });
         }
-        let Some(next) = passed(before, carried) else {
-            return None;
-        };
-        carried = next;
+        carried = passed(*before, carried)?;
     }
     None
 }
 
 /// One gate more after the first gates of a circuit.
+#[tactic(auto, using(crate::proofs::Walk::put_row))]
 pub fn insert(gates: &mut [Gate], done: Outcome, gate: Gate) -> Outcome
     requires { done.len < length gates.old }
     ensures row { reverse (take result.len gates.new) ≡ (inserted done.turn gate (reverse (take done.len gates.old))).0 }
@@ -57,36 +54,34 @@ pub fn insert(gates: &mut [Gate], done: Outcome, gate: Gate) -> Outcome
         return done;
     }
     let gate = reduced(gate);
-    match find(gates, done.len, gate) {
+    match find(&gates[..done.len], gate) {
         None => {
             gates[done.len] = gate;
             Outcome {
                 len: done.len + 1,
-                turn: done.turn,
+                ..done
             }
         }
-        Some(partner) => {
-            gates[partner.at] = partner.gate;
+        Some(Partner { at, gate, turn }) => {
+            gates[at] = gate;
             Outcome {
-                len: done.len,
-                turn: (done.turn % 8 + partner.turn % 8) % 8,
+                turn: sum_of_turns(done.turn, turn),
+                ..done
             }
         }
     }
 }
 
-/// All of the first gates of a circuit, one after the other.
-pub fn sweep(gates: &mut [Gate], before: Outcome) -> Outcome
-    requires { before.len ≤ length gates.old }
-    ensures row { reverse (take result.len gates.new) ≡ (swept before.turn [] (take before.len gates.old)).0 }
-    ensures turn { result.turn ≡ (swept before.turn [] (take before.len gates.old)).1 }
-    ensures few { result.len ≤ before.len }
+/// All gates of a circuit, one after the other, the whole turned already: those that are left stand at the front.
+#[tactic(auto, unfolding(crate::specs::Engine::swept))]
+pub fn sweep(gates: &mut [Gate], turn: u8) -> Outcome
+    ensures row { reverse (take result.len gates.new) ≡ (swept turn [] gates.old).0 }
+    ensures turn { result.turn ≡ (swept turn [] gates.old).1 }
+    ensures few { result.len ≤ length gates.old }
 {
-    let mut done = Outcome {
-        len: 0,
-        turn: before.turn,
-    };
-    for i in 0..before.len {
+    let mut done = Outcome { len: 0, turn };
+    // By index, since what is done stands in the same slice, before the gate that is read.
+    for i in 0..gates.len() {
         let gate = gates[i];
         done = insert(gates, done, gate);
     }

@@ -5,7 +5,7 @@ ghost use Rattle.tidy.specs.Promise.{Tidied, Tidy};
 use crate::engine::{Outcome, sweep};
 use circuit::Gate;
 
-/// Sweeps until nothing is taken away: the first gates are then the tidied circuit.
+/// Sweeps until nothing is taken away: the first gates are then the tidied circuit. A lent slice cannot shrink, so how many they are is told.
 pub fn settle(gates: &mut [Gate]) -> Outcome
     ensures done { Tidied result.turn gates.old (take result.len gates.new) }
     ensures tidy { Tidy (take result.len gates.new) }
@@ -17,8 +17,9 @@ pub fn settle(gates: &mut [Gate]) -> Outcome
         len: gates.len(),
         turn: 0,
     };
+    // A `while` would sweep in two places, before the loop and in it.
     loop {
-        let next = sweep(gates, best);
+        let next = sweep(&mut gates[..best.len], best.turn);
         if next.len == best.len {
             return next;
         }

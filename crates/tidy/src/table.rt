@@ -1,63 +1,21 @@
 //! What of one gate, or of two, can be told by looking at them.
-ghost use Rattle.std.specs.Prelude.{◌≡◌};
-ghost use Rattle.laws.specs.Undo.{undone};
-ghost use Rattle.tidy.specs.Table.{backs, commutes, control, eighths, hinders, idle, kind, merged, other_control, proper, reads, reduced, still, twin};
+ghost use Rattle.std.specs.Prelude.{◌≡◌, ◌+◌, ◌%◌};
+ghost use Rattle.tidy.specs.Table.{backs, commutes, hinders, idle, proper, reads, reduced, still, twin};
 
 use circuit::Gate;
 
-/// Which of the five it is.
-fn kind(gate: Gate) -> u8
-    ensures { result ≡ kind gate }
+/// Two turns together, in eighths: fewer than eight, since eight are a whole turn.
+pub fn sum_of_turns(first: u8, second: u8) -> u8
+    ensures { result ≡ (first + second) % 8 }
 {
-    match gate {
-        Gate::Phase { .. } => 0,
-        Gate::Hadamard(_) => 1,
-        Gate::Not(_) => 2,
-        Gate::ControlledNot { .. } => 3,
-        Gate::Toffoli { .. } => 4,
-    }
-}
-
-/// By how many eighths it turns.
-pub fn eighths(gate: Gate) -> u8
-    ensures { result ≡ eighths gate }
-{
-    match gate {
-        Gate::Phase { eighths, .. } => eighths,
-        _ => 0,
-    }
-}
-
-/// Its first control.
-fn control(gate: Gate) -> u8
-    ensures { result ≡ control gate }
-{
-    match gate {
-        Gate::ControlledNot { control, .. } => control,
-        Gate::Toffoli { first, .. } => first,
-        _ => 0,
-    }
-}
-
-/// Its second control: a single one counts as the same twice.
-fn other_control(gate: Gate) -> u8
-    ensures { result ≡ other_control gate }
-{
-    match gate {
-        Gate::ControlledNot { control, .. } => control,
-        Gate::Toffoli { second, .. } => second,
-        _ => 0,
-    }
+    (first % 8 + second % 8) % 8
 }
 
 /// Whether it leaves every row where it is.
 fn still(gate: Gate) -> bool
     ensures { result ≡ still gate }
 {
-    match gate {
-        Gate::Phase { .. } => true,
-        _ => false,
-    }
+    matches!(gate, Gate::Phase { .. })
 }
 
 /// Whether what it does depends on the qubit.
@@ -65,9 +23,8 @@ fn reads(gate: Gate, qubit: u8) -> bool
     ensures { result ≡ reads gate qubit }
 {
     match gate {
-        Gate::Phase { qubit: q, .. } => qubit == q,
-        Gate::Hadamard(q) => qubit == q,
         Gate::Not(_) => false,
+        Gate::Phase { qubit: q, .. } | Gate::Hadamard(q) => qubit == q,
         Gate::ControlledNot { control, .. } => qubit == control,
         Gate::Toffoli { first, second, .. } => qubit == first || qubit == second,
     }
@@ -106,28 +63,30 @@ fn proper(gate: Gate) -> bool
 pub fn twin(first: Gate, second: Gate) -> bool
     ensures { result ≡ twin first second }
 {
-    kind(first) == kind(second)
-        && first.target() == second.target()
-        && proper(second)
-        && (control(first) == control(second) && other_control(first) == other_control(second)
-            || control(first) == other_control(second) && other_control(first) == control(second))
-}
-
-/// What twins become: a turn by their eighths together, which are none unless they are turns.
-pub fn merged(first: Gate, second: Gate) -> Gate
-    ensures { result ≡ merged first second }
-{
-    Gate::Phase {
-        eighths: (eighths(first) % 8 + eighths(second) % 8) % 8,
-        qubit: second.target(),
-    }
+    let same = match (second, first) {
+        (Gate::Phase { qubit: p, .. }, Gate::Phase { qubit: q, .. }) => p == q,
+        (
+            Gate::Toffoli {
+                first: a,
+                second: b,
+                target: p,
+            },
+            Gate::Toffoli {
+                first: c,
+                second: d,
+                target: q,
+            },
+        ) => p == q && (a == c && b == d || a == d && b == c),
+        _ => first == second,
+    };
+    same && proper(second)
 }
 
 /// Whether it is a turn by whole eights, which does nothing.
 pub fn idle(gate: Gate) -> bool
     ensures { result ≡ idle gate }
 {
-    still(gate) && eighths(gate) % 8 == 0
+    matches!(gate, Gate::Phase { eighths, .. } if eighths % 8 == 0)
 }
 
 /// With fewer than eight eighths.
@@ -139,20 +98,7 @@ pub fn reduced(gate: Gate) -> Gate
             eighths: eighths % 8,
             qubit,
         },
-        other => other,
-    }
-}
-
-/// The gate that undoes it.
-pub fn undone(gate: Gate) -> Gate
-    ensures { result ≡ undone gate }
-{
-    match gate {
-        Gate::Phase { eighths, qubit } => Gate::Phase {
-            eighths: 7 * (eighths % 8) % 8,
-            qubit,
-        },
-        other => other,
+        _ => gate,
     }
 }
 
@@ -160,5 +106,5 @@ pub fn undone(gate: Gate) -> Gate
 pub fn backs(gate: Gate, other: Gate) -> bool
     ensures { result ≡ backs gate other }
 {
-    kind(gate) == 2 && still(other) && gate.target() == other.target()
+    matches!((gate, other), (Gate::Not(p), Gate::Phase { qubit, .. }) if p == qubit)
 }

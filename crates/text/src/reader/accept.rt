@@ -2,24 +2,39 @@
 ghost use Rattle.std.specs.Prelude.{◌≡◌, ℕ, length, is_some};
 ghost use Rattle.text.specs.Accept.{accepts, size_of};
 ghost use Rattle.text.specs.Program.{has};
-ghost use Rattle.text.specs.Reading.{view, act, complete, step, runs, begins, Runs};
+ghost use Rattle.text.specs.Reading.{view, named, called, act, complete, step, runs, begins, Runs};
 
-use super::{Reader, has, run};
-use crate::error::ReadError;
+use super::{Reader, run};
 use crate::statement::{Move, Part, next};
 use crate::token::Token;
+use circuit::Failure;
 use std::alloc::Global;
 
 impl Reader {
+    /// Whether the call of the block `k` may name the qubit `q` next.
+    pub(super) fn may_name(&self, k: u8, q: u8) -> bool
+        ensures { result ≡ is_some (named k q (view self.now)) }
+    {
+        self.named() < usize::from(self.size_of(k)) && !self.has_named(q)
+    }
+
+    /// Whether the call of the block `k` may end.
+    fn may_call(&self, k: u8) -> bool
+        ensures { result ≡ is_some (called 0 k (view self.now)) }
+    {
+        self.blocks
+            .get(usize::from(k))
+            .is_some_and(|block| self.names.len() == usize::from(block.size))
+    }
+
     /// Whether what a sign does can be done.
     fn can(&self, m: Move) -> bool
         ensures { result ≡ is_some (act 0 (view self.now) m) }
     {
         match m {
             Move::Close => !self.braces.is_empty() || self.inside.is_some(),
-            Move::Name(k, q) => self.names.len() < self.size_of(k) as usize && !self.has_named(q),
-            Move::Call(k) => (k as usize) < self.blocks.len()
-                && self.names.len() == self.size_of(k) as usize,
+            Move::Name(k, q) => self.may_name(k, q),
+            Move::Call(k) => self.may_call(k),
             Move::Refuse => false,
             _ => true,
         }
@@ -47,15 +62,13 @@ impl Reader {
         self.part
     }
 
-    /// How many qubits the block `k` has, 0 if there is none.
+    /// How many qubits the block `k` has, 0 if there is none: a call can then name none either.
     pub fn size_of(&self, k: u8) -> u8
         ensures { result ≡ size_of (view self.now) k }
     {
-        if (k as usize) < self.blocks.len() {
-            self.blocks[k as usize].size
-        } else {
-            0
-        }
+        self.blocks
+            .get(usize::from(k))
+            .map_or(0, |block| block.size)
     }
 
     /// How many qubits the call that is open has named.
@@ -69,12 +82,12 @@ impl Reader {
     pub fn has_named(&self, q: u8) -> bool
         ensures { result ≡ has q (view self.now).names }
     {
-        has(&self.names, q)
+        self.names.contains(&q)
     }
 }
 
 /// A reader after these signs, or the first that it refuses. It keeps no gates.
-pub fn read_signs(heap: Global, tokens: &[Token]) -> Result<Reader, ReadError>
+pub fn read_signs(heap: Global, tokens: &[Token]) -> Result<Reader, Failure>
     ensures { Runs result (runs 0 begins 0 tokens.now) }
 {
     run(heap, 0, tokens)

@@ -1,17 +1,14 @@
-use Rattle.std.proofs.Common.{sym, ◌∙◌}
-use Rattle.std.proofs.lemmas.List.{at_drop_all}
-use Rattle.circuit.proofs.Codes.{misfit_next}
+use Rattle.std.proofs.Common.{not, ◌∙◌, rules, tests}
+use Rattle.std.proofs.lemmas.Iterator.{YieldsList-from_slice}
+use Rattle.std.proofs.lemmas.Iterator.Adapters.{position_from-zero}
+use Rattle.std.proofs.lemmas.Iterator.Search.{position_from_yields_List}
+use Rattle.circuit.proofs.Codes.{misfit_position}
 use Rattle.circuit.proofs.code.first_misfit.Goals as goal
-use Rattle.circuit.specs.Refusals.{misfit_from}
-
-pub returns-then-not-fits : goal.returns-then-not-fits
-returns-then-not-fits c =
-    sym (misfit_next c.args.qubits c.args.gates.now c.loop-i.i c.loop-i-test.true _ (sym c.if-not-fits.true ∙ c.fits.ensures)) ∙ c.loop-i.invariant
-
-pub loop-i-preserved : goal.loop-i-preserved
-loop-i-preserved c =
-    sym (misfit_next c.args.qubits c.args.gates.now c.loop-i.i c.loop-i-test.true _ (sym c.if-not-fits.false ∙ c.fits.ensures)) ∙ c.loop-i.invariant
+use Rattle.circuit.specs.Circuit.{fits}
 
 pub returns : goal.returns
-unfolding misfit_from
-returns c = sym (at_drop_all (misfit_from c.args.qubits c.loop-i.i) c.args.gates.now c.loop-i.i c.loop-i-test.false) ∙ c.loop-i.invariant
+returns c =
+    let gs = c.args.gates.now in
+    let n = c.args.qubits in
+    position_from_yields_List (λ g. not (fits n g)) _ _ c.position.result c.position.ensures.ran (YieldsList-from_slice gs cc) (λ g b q k. search (rules, tests))
+    ∙ (position_from-zero (λ g. not (fits n g)) gs ∙ misfit_position n 0 gs)

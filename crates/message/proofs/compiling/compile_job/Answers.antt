@@ -22,8 +22,8 @@ returns c =
         plan = subst (λ (bs : List ℕ). plan_of bs ≡ Ok (whole c.in_ok-plan.plan)) back c.in_ok-plan.ensures;
       };
       carries = c.in_ok-compiled.ensures;
-      text = c.in_ok-shown.ensures.exact ∙ ap₂ (λ (gs : List Gate) (ps : List ℕ). printed gs ps) c.deref.ensures.value c.deref-2.ensures.value;
+      text = c.in_ok-show_compiled.ensures.exact ∙ ap₂ (λ (gs : List Gate) (ps : List ℕ). printed gs ps) c.deref.ensures.value c.deref-2.ensures.value;
       told =
-          subst (λ (ps : List ℕ). Tells (string_bytes c.in_ok-shown.shown) (vec_items c.in_ok-compiled.compiled.gates) ps) c.deref-2.ensures.value
-          (subst (λ (gs : List Gate). Tells (string_bytes c.in_ok-shown.shown) gs c.deref-2.result.now) c.deref.ensures.value c.in_ok-shown.ensures.told);
+          subst (λ (ps : List ℕ). Tells (string_bytes c.in_ok-show_compiled.field-0) (vec_items c.in_ok-compiled.compiled.gates) ps) c.deref-2.ensures.value
+          (subst (λ (gs : List Gate). Tells (string_bytes c.in_ok-show_compiled.field-0) gs c.deref-2.result.now) c.deref.ensures.value c.in_ok-show_compiled.ensures.told);
     }

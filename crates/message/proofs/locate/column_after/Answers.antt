@@ -1,22 +1,15 @@
-use Rattle.std.proofs.Common.{◌+◌, Bool, cond, eqb, get_or, sym, ap, ◌∙◌, arith, eq-eqb, ne_eqb}
-use Rattle.message.proofs.Wherein.{after_more, after-all}
+use Rattle.std.proofs.Common.{◌+◌, not, ◌==◌, reverse, sym, ap, ◌∙◌, tests, rules}
+use Rattle.std.proofs.lemmas.Iterator.Adapters.{YieldsList-from_rev_slice}
+use Rattle.std.proofs.lemmas.Iterator.Consumers.{YieldsList-at, count_from_yields_List}
+use Rattle.std.proofs.lemmas.Iterator.Search.{YieldsList-from_take_while}
+use Rattle.std.proofs.lemmas.List.Folds.{length-prefix_len}
+use Rattle.message.proofs.Wherein.{column-is}
 use Rattle.message.proofs.locate.column_after.Goals as goal
-use Rattle.message.proofs.locate.column_after.Goals.{then-b-eq10, else-b-eq10}
-
-pub loop-b-preserved : goal.loop-b-preserved
-loop-b-preserved c =
-    elim c.if-b-eq10.branch [
-      | then-b-eq10 w ↦ (
-        after_more (λ k b. cond (eqb b 10) 1 (k + 1)) c.args.before.now c.loop-b.b-index c.loop-b.column _ _ c.loop-b-test.true c.loop-b.invariant.0
-            (w.column-is ∙ ap (λ (t : Bool). cond t (1) (c.loop-b.column + 1)) (sym (eq-eqb (get_or c.args.before.now c.loop-b.b-index 0) 10 w.if-b-eq10.true))),
-        omega (arith, w.column-is),
-      )
-      | else-b-eq10 w ↦ (
-        after_more (λ k b. cond (eqb b 10) 1 (k + 1)) c.args.before.now c.loop-b.b-index c.loop-b.column _ _ c.loop-b-test.true c.loop-b.invariant.0
-            (w.column-is ∙ ap (λ (t : Bool). cond t (1) (c.loop-b.column + 1)) (sym (ne_eqb (get_or c.args.before.now c.loop-b.b-index 0) 10 w.if-b-eq10.false))),
-        omega (arith, w.column-is),
-      )
-    ]
 
 pub returns : goal.returns
-returns c = after-all (λ k b. cond (eqb b 10) 1 (k + 1)) c.args.before.now c.loop-b.b-index c.loop-b.column _ c.loop-b-test.false c.loop-b.invariant.0
+returns c =
+    let bs = c.args.before.now in
+    ap (λ n. 1 + n)
+    (count_from_yields_List _ _ c.count.ensures.ran (YieldsList-from_take_while _ (λ b. not (b == 10)) (YieldsList-at c.take_while.ensures.source (YieldsList-from_rev_slice bs cc)) c.take_while.ensures.closure c.take_while.ensures.done (λ x b q k. search (rules, tests)))
+    ∙ length-prefix_len (λ b. not (b == 10)) (reverse bs))
+    ∙ sym (column-is bs)

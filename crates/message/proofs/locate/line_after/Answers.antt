@@ -1,22 +1,14 @@
-use Rattle.std.proofs.Common.{◌+◌, Bool, cond, eqb, get_or, sym, ap, ◌∙◌, arith, eq-eqb, ne_eqb}
-use Rattle.message.proofs.Wherein.{after_more, after-all}
+use Rattle.std.proofs.Common.{◌+◌, ◌==◌, sym, ap, ◌∙◌, tests, rules}
+use Rattle.std.proofs.lemmas.Iterator.{YieldsList-from_slice}
+use Rattle.std.proofs.lemmas.Iterator.Consumers.{YieldsList-at, YieldsList-from_filter, count_from_yields_List}
+use Rattle.std.proofs.lemmas.List.Sums.{length-filter}
+use Rattle.message.proofs.Wherein.{line_is, newlines-are}
 use Rattle.message.proofs.locate.line_after.Goals as goal
-use Rattle.message.proofs.locate.line_after.Goals.{then-b-eq10, else-b-eq10}
-
-pub loop-b-preserved : goal.loop-b-preserved
-loop-b-preserved c =
-    elim c.if-b-eq10.branch [
-      | then-b-eq10 w ↦ (
-        after_more (λ k b. cond (eqb b 10) (k + 1) k) c.args.before.now c.loop-b.b-index c.loop-b.line _ _ c.loop-b-test.true c.loop-b.invariant.0
-            (w.line-is ∙ ap (λ (t : Bool). cond t (c.loop-b.line + 1) c.loop-b.line) (sym (eq-eqb (get_or c.args.before.now c.loop-b.b-index 0) 10 w.if-b-eq10.true))),
-        omega (arith, w.line-is),
-      )
-      | else-b-eq10 w ↦ (
-        after_more (λ k b. cond (eqb b 10) (k + 1) k) c.args.before.now c.loop-b.b-index c.loop-b.line _ _ c.loop-b-test.true c.loop-b.invariant.0
-            (w.line-is ∙ ap (λ (t : Bool). cond t (c.loop-b.line + 1) c.loop-b.line) (sym (ne_eqb (get_or c.args.before.now c.loop-b.b-index 0) 10 w.if-b-eq10.false))),
-        omega (arith, w.line-is),
-      )
-    ]
 
 pub returns : goal.returns
-returns c = after-all (λ k b. cond (eqb b 10) (k + 1) k) c.args.before.now c.loop-b.b-index c.loop-b.line _ c.loop-b-test.false c.loop-b.invariant.0
+returns c =
+    let bs = c.args.before.now in
+    ap (λ n. 1 + n)
+    (count_from_yields_List _ _ c.count.ensures.ran (YieldsList-from_filter _ (λ b. b == 10) (YieldsList-at c.filter.ensures.source (YieldsList-from_slice bs c.iter.ensures.rest)) c.filter.ensures.closure (λ x b q k. search (rules, tests)))
+    ∙ length-filter (λ b. b == 10) bs ∙ sym (newlines-are bs))
+    ∙ sym (line_is 1 bs)

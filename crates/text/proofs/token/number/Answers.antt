@@ -1,16 +1,15 @@
-use Rattle.std.proofs.Common.{sym, ◌∙◌, arith}
-use Rattle.std.proofs.lemmas.List.{at_drop_all}
-use Rattle.text.proofs.Decimal.{decimal, decimal-is, digit-more, digit-none}
+use Rattle.std.proofs.Common.{◌≡◌, sym, ap, ◌∙◌, rules}
+use Rattle.std.specs.Option.{MatchOption}
+use Rattle.text.specs.declared.token.Token.TheVariants.{Number, Other}
+use Rattle.text.proofs.Decimal.{decimal, decimal-is, folded, stopped, as_number}
 use Rattle.text.proofs.token.number.Goals as goal
 
-pub loop-b-init : goal.loop-b-init
-loop-b-init c = decimal-is c.args.w.now
-
-pub returns-in_default : goal.returns-in_default
-returns-in_default c = sym (digit-none c.loop-b.n c.loop-b.b-index c.args.w.now (omega arith) (sym c.in_default.ensures)) ∙ c.loop-b.invariant
-
-pub loop-b-preserved : goal.loop-b-preserved
-loop-b-preserved c = digit-more c.loop-b.n c.loop-b.b-index c.args.w.now (omega arith) c.in-Some.m (sym c.in-Some.ensures) ∙ c.loop-b.invariant
-
 pub returns : goal.returns
-returns c = sym (at_drop_all (decimal c.loop-b.n) c.args.w.now c.loop-b.b-index (omega arith)) ∙ c.loop-b.invariant
+returns c =
+    let r = c.try_fold.ensures.ran in
+    let m : MatchOption c.try_fold.result (c.map_or.result ≡ Other) (λ n. c.map_or.result ≡ Number n) = search rules in
+    as_number c.try_fold.result c.map_or.result m
+    ∙ sym (stopped r.1 r.4.0 _ r.3 c.try_fold.result r.4.2 (λ k. search rules) (λ x k. (search rules, search rules)) r.6)
+    ∙ sym (folded _ _ (λ n x q k. search rules) r.0 c.iter.result r.4.0 0 (r.2, r.3) r.4.1 r.5).1
+    ∙ ap (decimal 0) c.iter.ensures.rest
+    ∙ decimal-is c.args.w.now

@@ -4,4 +4,4 @@ use Rattle.circuit.proofs.vector.StateVector.apply.Given as goal
 
 -- the rows below this one are done
 abbrev pub invariant-loop-row : goal.invariant-loop-row
-invariant-loop-row l = (l.self.qubits ≡ l.initial.self.qubits) × DoneBelow l.initial.self.qubits l.gate l.initial.self.amplitudes l.row l.self.amplitudes
+invariant-loop-row l = (l.self.register ≡ l.initial.self.register) × DoneBelow l.initial.self.register.qubits l.gate l.initial.self.amplitudes l.row l.self.amplitudes

@@ -5,4 +5,4 @@ use Rattle.circuit.specs.Circuit.{run}
 use Rattle.circuit.specs.Vector.{represented}
 
 abbrev pub invariant-loop-gate : goal.invariant-loop-gate
-invariant-loop-gate l = (l.self.qubits ≡ l.initial.self.qubits) × Left (run l.gates (represented l.initial.self)) (drop l.gate-index l.gates) l.self
+invariant-loop-gate l = (l.self.register ≡ l.initial.self.register) × Left (run l.gates (represented l.initial.self)) (drop l.gate-index l.gates) l.self

@@ -1,0 +1,36 @@
+use Rattle.std.proofs.Common.{◌+◌, length, get_or, sym, subst, arith}
+use Rattle.std.proofs.lemmas.List.{take_more, take_rest, length-drop}
+use Rattle.circuit.specs.Circuit.{Fit}
+use Rattle.circuit.specs.declared.gate.Gate.TheVariants.{Phase}
+use Rattle.device.specs.Board.{graph_of}
+use Rattle.device.specs.Layout.{at}
+use Rattle.compiler.proofs.Costs.{costs_front, costs-more, fit_at, plain_at}
+use Rattle.compiler.proofs.Emit.{emit_none, emit_then, emit_same}
+use Rattle.compiler.proofs.router.Router.route.Goals as goal
+
+pub loop-i-init : goal.loop-i-init
+loop-i-init g c = (emit_none (length c.args.place.now) (graph_of c.args.self.now.device.now) (at c.args.place.now) c.args.room.now c.requires.placed, omega arith)
+
+pub step-k-requires-clause-plain : goal.step-k-requires-clause-plain
+step-k-requires-clause-plain g c = plain_at c.args.gates.now c.loop-i.i (Phase 0 0) c.loop-i-test.true c.requires.plain
+
+pub step-k-requires-clause-fits : goal.step-k-requires-clause-fits
+step-k-requires-clause-fits g c =
+    let gates = c.args.gates.now in
+    let i = c.loop-i.i in
+    subst (λ k. Fit k (get_or gates i (Phase 0 0))) (sym c.loop-i.auto.place) (fit_at (length c.args.place.now) gates i (Phase 0 0) c.loop-i-test.true c.requires.fits)
+
+pub step-k-requires-clause-room : goal.step-k-requires-clause-room
+step-k-requires-clause-room g c =
+    let gates = c.args.gates.now in
+    let i = c.loop-i.i in
+    simp take_rest (simp length-drop (omega (arith, costs-more gates i (Phase 0 0) c.loop-i-test.true, costs_front gates (i + 1), c.loop-i.invariant.1, c.requires.room, c.loop-i.auto.room)))
+
+pub loop-i-preserved : goal.loop-i-preserved
+loop-i-preserved g c =
+    let gates = c.args.gates.now in
+    let i = c.loop-i.i in
+    let h = c.loop-i-test.true in (
+      emit_same _ _ (sym (take_more gates i (Phase 0 0) h)) (emit_then c.loop-i.auto.place c.loop-i.invariant.0 c.step-k.ensures.done),
+      omega (arith, costs-more gates i (Phase 0 0) h, c.loop-i.invariant.1, c.step-k.ensures.most),
+    )
