@@ -14,8 +14,8 @@ kept z h = omega (arith, ints)
 pub kept_neg : (z : ℤ) → nat_abs z ≤ 2 ^ 61 → word (pos 0 -ℤ word z) ≡ pos 0 -ℤ z
 kept_neg z h = omega (arith, ints)
 
+pub twice : (z : ℤ) → pos 0 -ℤ (pos 0 -ℤ z) ≡ z
+twice z = omega (arith, ints)
+
 pub arm : (m k : ℕ) (a r : Amplitude) → m % 8 ≡ k → r ≡ turned k a → r ≡ turned m a
 arm m k a r e h = h ∙ ap (λ (n : ℕ). turned n a) (sym e) ∙ turned_mod m a
-
-pub as_eighths : (k n : ℕ) (a r : Amplitude) → n ≡ k → r ≡ turned k a → r ≡ turned n a
-as_eighths k n a r e h = h ∙ ap (λ (m : ℕ). turned m a) (sym e)

@@ -116,3 +116,12 @@ rooted_injective (suc n) a b e = rooted_injective n a b (rooted_1_injective (roo
 
 pub ring_laws : RingLaws
 ring_laws = record { plus_comm = plus_comm; plus_assoc = plus_assoc; plus_nought = plus_nought; minus_self = minus_self; turned_plus = turned_plus; turned_8 = turned_8; turned_add = turned_add; turned_mod = turned_mod; rooted_plus = rooted_plus; rooted_turned = rooted_turned; rooted_add = rooted_add; rooted_2 = rooted_2; rooted_injective = rooted_injective }
+
+-- nought turned, and nought times roots, is nought
+pub turned-nought : (m : ℕ) → turned m nought ≡ nought
+turned-nought zero = refl
+turned-nought (suc m) = ap (turned 1) (turned-nought m)
+
+pub rooted-nought : (m : ℕ) → rooted m nought ≡ nought
+rooted-nought zero = refl
+rooted-nought (suc m) = ap (rooted 1) (rooted-nought m)

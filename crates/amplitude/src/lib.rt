@@ -9,7 +9,7 @@ mod show;
 
 pub use show::amplitude_text_stands;
 
-/// one + w * w + w2 * w^2 + w3 * w^3, each part a whole number.
+/// one + w * w + w2 * w^2 + w3 * w^3, each part a whole number. How large the parts may be stands with each method, since each doubles the bound.
 #[derive(Clone, Copy, PartialEq, Eq, Debug)]
 pub struct Amplitude {
     pub one: i64,
@@ -47,7 +47,7 @@ impl Amplitude {
         }
     }
 
-    /// The difference.
+    /// The difference. With `plus` it would take its operator as a closure, and be longer than both.
     pub fn minus(self, other: Amplitude) -> Amplitude
         requires small { Within (2 ^ 61) self }
         requires other_small { Within (2 ^ 61) other }
@@ -61,46 +61,11 @@ impl Amplitude {
         }
     }
 
-    /// Times -1, which is w^4.
-    fn negated(self) -> Amplitude
-        requires { Within (2 ^ 61) self }
-        ensures { result ≡ turned 4 self }
+    /// The amplitude of these parts.
+    fn of(one: i64, w: i64, w2: i64, w3: i64) -> Amplitude
+        ensures { result ≡ record { one = one; w = w; w2 = w2; w3 = w3 } }
     {
-        Amplitude {
-            one: -self.one,
-            w: -self.w,
-            w2: -self.w2,
-            w3: -self.w3,
-        }
-    }
-
-    /// Times w, fewer than four times.
-    fn turned_less(self, eighths: u8) -> Amplitude
-        requires { Within (2 ^ 61) self }
-        ensures { result ≡ turned (eighths % 4) self }
-    {
-        let Amplitude { one, w, w2, w3 } = self;
-        match eighths % 4 {
-            0 => self,
-            1 => Amplitude {
-                one: -w3,
-                w: one,
-                w2: w,
-                w3: w2,
-            },
-            2 => Amplitude {
-                one: -w2,
-                w: -w3,
-                w2: one,
-                w3: w,
-            },
-            _ => Amplitude {
-                one: -w,
-                w: -w2,
-                w2: -w3,
-                w3: one,
-            },
-        }
+        Amplitude { one, w, w2, w3 }
     }
 
     /// Times w, so many times.
@@ -108,11 +73,16 @@ impl Amplitude {
         requires { Within (2 ^ 61) self }
         ensures { result ≡ turned eighths self }
     {
-        let turned = self.turned_less(eighths);
-        if eighths % 8 < 4 {
-            turned
-        } else {
-            turned.negated()
+        let Amplitude { one, w, w2, w3 } = self;
+        match eighths % 8 {
+            0 => self,
+            1 => Amplitude::of(-w3, one, w, w2),
+            2 => Amplitude::of(-w2, -w3, one, w),
+            3 => Amplitude::of(-w, -w2, -w3, one),
+            4 => Amplitude::of(-one, -w, -w2, -w3),
+            5 => Amplitude::of(w3, -one, -w, -w2),
+            6 => Amplitude::of(w2, w3, -one, -w),
+            _ => Amplitude::of(w, w2, w3, -one),
         }
     }
 

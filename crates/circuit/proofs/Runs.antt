@@ -1,10 +1,9 @@
 -- A gate after another: what is left to run.
-use Rattle.std.proofs.Common.{◌≡◌, ℕ, ◌+◌, ◌-◌, ◌^◌, ◌≤◌, List, [], ◌∷◌, ◌++◌, reverse, sym, ap, ◌∙◌, subst, arith, pow_mono}
-use Rattle.std.proofs.lemmas.List.{reverse-append}
+use Rattle.std.proofs.Common.{◌≡◌, ℕ, ◌+◌, ◌-◌, ◌^◌, ◌≤◌, List, [], ◌∷◌, sym, ap, ◌∙◌, subst, Bor, Option, None, Some, arith, pow_mono}
 use Rattle.amplitude.proofs.Bounds.{within_more}
 use Rattle.circuit.proofs.Growth.{bounded-does}
 use Rattle.circuit.specs.Circuit.{Row, State, does, run, mixed, mixes, AllFit}
-use Rattle.circuit.specs.Vector.{represented, Bounded, Ready}
+use Rattle.circuit.specs.Vector.{represented, Bounded, Gives, Ready}
 use Rattle.circuit.specs.declared.gate.Gate.{Gate}
 use Rattle.circuit.specs.declared.register.Register.{Register}
 use Rattle.circuit.specs.declared.vector.StateVector.{StateVector}
@@ -43,6 +42,24 @@ pub left-none : (wanted : State) (s : StateVector) → Left wanted [] s → repr
 unfolding run
 left-none wanted s left = left.gives
 
--- backwards, the last gate is the next one
-pub left-last : (wanted : State) (s : StateVector) (xs ys : List Gate) (g : Gate) → xs ≡ ys ++ (g ∷ []) → Left wanted (reverse xs) s → Left wanted (g ∷ reverse ys) s
-left-last wanted s xs ys g last left = subst (λ (gs : List Gate). Left wanted gs s) (ap reverse last ∙ reverse-append ys (g ∷ [])) left
+-- the gates left are those that the iterator is still to give
+pub record ToCome (wanted : State) {I : Type 0} (steps : I → Option (Bor Gate) → I → Type 0) (i : I) (s : StateVector) : Type 0 where
+  pub gates : List Gate
+  pub gives : Gives steps i gates
+  pub left : Left wanted gates s
+
+module _ (wanted : State) {I : Type 0} {steps : I → Option (Bor Gate) → I → Type 0} (i j : I) (s : StateVector) where
+  -- a gate that comes is the first of those left
+  pub come : (g : Bor Gate) → steps i (Some g) j → ToCome wanted steps i s → (gs : List Gate) × Gives steps j gs × Left wanted (g.now ∷ gs) s
+  come g step to = by to.gates to.gives to.left
+    where
+      by : (all : List Gate) → Gives steps i all → Left wanted all s → (gs : List Gate) × Gives steps j gs × Left wanted (g.now ∷ gs) s
+      by [] gives left = absurd (gives g j step)
+      by (h ∷ gs) gives left = let is = gives.1 g j step in (gs, is.1, subst (λ (x : Gate). Left wanted (x ∷ gs) s) (sym is.0) left)
+
+  pub come-none : steps i None j → ToCome wanted steps i s → represented s ≡ wanted
+  come-none step to = by to.gates to.gives to.left
+    where
+      by : (all : List Gate) → Gives steps i all → Left wanted all s → represented s ≡ wanted
+      by [] gives left = left-none wanted s left
+      by (h ∷ gs) gives left = absurd (gives.0 j step)

@@ -1,5 +1,8 @@
 -- The state that a vector of amplitudes represents, and how large its amplitudes are.
 use Rattle.std.specs.Prelude.{◌≡◌, ℕ, ◌-◌, ◌^◌, ◌≤◌, cond, ◌&&◌, List}
+use Rattle.std.specs.Iterator.{AlwaysYields}
+use Rattle.std.specs.declared.option.Option.{Option}
+use Rattle.std.specs.Borrow.{Bor}
 use Rattle.amplitude.specs.declared.Amplitude.{Amplitude}
 use Rattle.amplitude.specs.Ring.{plus, minus, turned, Within}
 use Rattle.circuit.specs.declared.gate.Gate.{Gate}
@@ -28,6 +31,10 @@ pub record Ready (gs : List Gate) (s : StateVector) : Type 0 where
   pub fit : AllFit s.register.qubits gs
   pub short : mixes gs ≤ 61
   pub room : Bounded (2 ^ (61 - mixes gs)) (represented s)
+
+-- an iterator over references gives these gates, whichever way it runs
+abbrev pub Gives : {I : Type 0} → (I → Option (Bor Gate) → I → Type 0) → I → List Gate → Type 0
+Gives steps i gs = AlwaysYields steps (λ g. g.now) i gs
 
 -- a vector of n qubits that is 1 at the row with the number k, and 0 at the others
 pub record Basis (n k : ℕ) (s : StateVector) : Type 0 where

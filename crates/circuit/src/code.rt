@@ -1,10 +1,11 @@
-//! Circuits in numbers, four a gate.
-ghost use Rattle.std.specs.Prelude.{◌≡◌, ◌*◌, ◌≤◌, ◌++◌, length, drop, slice_index};
+//! Circuits in numbers, four a gate: the form of the interface on bytes, where alone a kind is a number.
+ghost use Rattle.std.specs.Prelude.{◌≡◌, ◌*◌, ◌%◌, ◌≤◌, ◌++◌, length, drop, slice_index};
 ghost use Rattle.circuit.specs.Circuit.{mixes};
 ghost use Rattle.circuit.specs.Code.{code, fault_from, fault_of, gate_of, gates_in};
-ghost use Rattle.circuit.specs.Refusals.{misfit_from};
+ghost use Rattle.circuit.specs.Refusals.{Checked, at_place, misfit_from};
 
 use crate::gate::Gate;
+use crate::refusal::{Refusal, refuse};
 
 impl From<Gate> for [u8; 4] {
     ghost from_gives = { λ gate numbers. numbers ≡ code gate };
@@ -67,6 +68,7 @@ pub fn first_fault(numbers: &[u8]) -> Option<usize>
     ensures { result ≡ fault_from 0 numbers.now }
 {
     let (fours, _rest) = numbers.as_chunks::<4>();
+    // A `for`: with `find_map` the proof of the first place did not close.
     for (gate, four) in fours.iter().enumerate() {
         if let Some(place) = fault_of(*four) {
             return Some(4 * gate + place);
@@ -82,14 +84,26 @@ pub fn first_misfit(qubits: u64, gates: &[Gate]) -> Option<usize>
     gates.iter().position(|gate| !gate.fits(qubits))
 }
 
+/// That each number is one of a gate.
+pub fn check_numbers(numbers: &[u8]) -> Result<(), Refusal>
+    ensures { Checked (at_place Refusal.Number (fault_from 0 numbers.now)) result }
+{
+    refuse(first_fault(numbers).map(|place| Refusal::Number(place as u64)))
+}
+
+/// That each gate fits so many qubits.
+pub fn check_gates(qubits: u64, gates: &[Gate]) -> Result<(), Refusal>
+    ensures { Checked (at_place Refusal.Gate (misfit_from qubits 0 gates.now)) result }
+{
+    refuse(first_misfit(qubits, gates).map(|gate| Refusal::Gate(gate as u64)))
+}
+
 /// How many Hadamards there are.
 pub fn count_mixes(gates: &[Gate]) -> u64
     ensures { result ≡ mixes gates.now }
 {
-    gates
-        .iter()
-        .filter(|gate| matches!(gate, Gate::Hadamard(_)))
-        .count() as u64
+    // By `count`, as a gate counts for one Hadamard at most: the bound that `sum` asks for needs a lemma of its own.
+    gates.iter().filter(|gate| gate.mixed() == 1).count() as u64
 }
 
 /// Writes the gates that the numbers are.
@@ -98,9 +112,21 @@ pub fn decode(numbers: &[u8], gates: &mut [Gate])
     ensures { gates.new ≡ gates_in numbers.now }
 {
     let (fours, _rest) = numbers.as_chunks::<4>();
+    // By index: with a `zip` over `iter_mut` the proof of what is written did not close.
     for (i, four) in fours.iter().enumerate() {
         gates[i] = Gate::from(*four);
     }
+}
+
+/// The gates that the numbers are, in the room.
+pub fn decode_in<'a, const N: usize>(room: &'a mut [Gate; N], numbers: &[u8]) -> &'a [Gate]
+    requires whole { length numbers.now % 4 ≡ 0 }
+    requires short { length numbers.now ≤ 4 * N }
+    ensures { result.now ≡ gates_in numbers.now }
+{
+    let gates = &mut room[..numbers.len() / 4];
+    decode(numbers, gates);
+    gates
 }
 
 /// Writes the gate's four numbers at the front of the room.

@@ -12,6 +12,7 @@ pub enum Failure {
     Refused(Refusal),
 }
 
+// By hand, as a derived `From` has no contract.
 impl From<AllocError> for Failure {
     ghost from_gives = { λ _ r. r ≡ Memory };
 

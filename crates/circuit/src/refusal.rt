@@ -1,6 +1,6 @@
 //! Why a text, a circuit, a device or a layout is turned away.
 ghost use Rattle.std.specs.Prelude.{◌≡◌};
-ghost use Rattle.circuit.specs.Refusals.{number, place};
+ghost use Rattle.circuit.specs.Refusals.{Checked, number, place, unless};
 
 /// Each case has a number; checks are made in the order of these numbers, and the first that applies is told, with its place. Places count from 0.
 #[derive(Clone, Copy, PartialEq, Eq, Debug)]
@@ -26,7 +26,14 @@ pub enum Refusal {
 }
 
 impl Refusal {
-    /// Its number in the list of refusals.
+    /// The refusal, unless a test holds.
+    pub fn unless(self, holds: bool) -> Result<(), Refusal>
+        ensures { Checked (unless holds self) result }
+    {
+        if holds { Ok(()) } else { Err(self) }
+    }
+
+    /// Its number in the list of refusals, by which users know it.
     pub fn number(self) -> u8
         ensures { result ≡ number self }
     {
@@ -59,4 +66,11 @@ impl Refusal {
             | Refusal::Text(place) => place,
         }
     }
+}
+
+/// The refusal, if there is one.
+pub fn refuse(refusal: Option<Refusal>) -> Result<(), Refusal>
+    ensures { Checked refusal result }
+{
+    refusal.map_or(Ok(()), Err)
 }

@@ -11,7 +11,7 @@ impl TryFrom<u64> for Register {
 
     ghost try_from_gives = { λ qubits r. IsRegister qubits r };
 
-    /// A register has one qubit at least.
+    /// Of no qubit and of more than eight none is made.
     fn try_from(qubits: u64) -> Result<Register, Refusal> {
         match qubits {
             1..=8 => Ok(Register {

@@ -1,8 +1,8 @@
 //! Compares the circuits that two texts say.
 #![tactic(auto)]
 
-use console::{NoAnswer, exit_code, fail, point, read_input};
-use message::{CompareError, Reason, Side, compare_texts};
+use console::{NoAnswer, exit_code, fail, page, point, read_input};
+use message::{CompareError, Side, compare_texts};
 use std::env;
 use std::process::ExitCode;
 
@@ -31,22 +31,20 @@ fn run(rt: &HostRuntime, first: &str, second: &str) -> Result<(), NoAnswer> {
     let two = read_input(rt, PROGRAM, second)?;
     match compare_texts(rt.alloc(), &one, &two) {
         Ok(line) => return Ok(print!(rt; "{line}")?),
-        Err(CompareError::Memory) => eprintln!(rt; "{PROGRAM}: out of memory")?,
         Err(CompareError::Text(Side::First, refusal)) => point(rt, first, &one, refusal.place())?,
         Err(CompareError::Text(Side::Second, refusal)) => point(rt, second, &two, refusal.place())?,
-        Err(CompareError::Refused(refusal)) => eprintln!(rt; "{PROGRAM}: {}", Reason(refusal))?,
+        Err(error) => eprintln!(rt; "{PROGRAM}: {error}")?,
     }
     Err(NoAnswer)
 }
 
-/// Does what the arguments ask for.
+/// Does what the arguments ask for. Each program takes its own apart, and shares what it then does.
 fn answer(rt: &HostRuntime) -> Result<(), NoAnswer> {
     let mut args = env::args(rt)?.skip(1);
     let first = args.next();
-    match first.as_deref() {
-        Some("--help") => return Ok(println!(rt; "{HELP}")?),
-        Some("--version") => return Ok(println!(rt; "{VERSION}")?),
-        _ => {}
+    let page = first.as_deref().and_then(|word| page(word, HELP, VERSION));
+    if let Some(page) = page {
+        return Ok(println!(rt; "{page}")?);
     }
     let (Some(first), Some(second), None) = (first, args.next(), args.next()) else {
         return fail(rt, PROGRAM, "two files");

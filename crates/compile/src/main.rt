@@ -2,8 +2,8 @@
 #![tactic(auto)]
 
 use circuit::Refusal;
-use console::{NoAnswer, exit_code, fail, point, read_input};
-use message::{JobError, Reason, compile_job, text_of};
+use console::{NoAnswer, exit_code, fail, page, point, read_input};
+use message::{JobError, compile_job, text_of};
 use std::env;
 use std::process::ExitCode;
 
@@ -35,13 +35,8 @@ const PROGRAM: &str = "compile";
 fn complain(rt: &HostRuntime, name: &str, job: &[u8], error: JobError) -> Result<(), NoAnswer> {
     match error {
         JobError::Refused(Refusal::Text(sign)) => point(rt, name, text_of(job), sign)?,
-        JobError::Refused(refusal) => eprintln!(rt; "{name}: {}", Reason(refusal))?,
-        JobError::Memory => eprintln!(rt; "{name}: out of memory")?,
-        JobError::Line(line) => eprintln!(rt;
-            "{name}:{line}: no line of a job, or one that cannot stand here"
-        )?,
-        JobError::NoDevice => eprintln!(rt; "{name}: no line gives a device")?,
-        JobError::NoLayout => eprintln!(rt; "{name}: no line gives a layout")?,
+        JobError::Line(line) => eprintln!(rt; "{name}:{line}: {error}")?,
+        _ => eprintln!(rt; "{name}: {error}")?,
     }
     Err(NoAnswer)
 }
@@ -72,13 +67,15 @@ fn compile(
     }
 }
 
-/// Does what the arguments ask for.
+/// Does what the arguments ask for. Each program takes its own apart, and shares what it then does.
 fn answer(rt: &HostRuntime) -> Result<(), NoAnswer> {
     let mut args = env::args(rt)?.skip(1);
     let first = args.next();
+    let page = first.as_deref().and_then(|word| page(word, HELP, VERSION));
+    if let Some(page) = page {
+        return Ok(println!(rt; "{page}")?);
+    }
     match first.as_deref() {
-        Some("--help") => Ok(println!(rt; "{HELP}")?),
-        Some("--version") => Ok(println!(rt; "{VERSION}")?),
         Some("--plain") => compile(rt, true, args.next(), args.next()),
         _ => compile(rt, false, first, args.next()),
     }

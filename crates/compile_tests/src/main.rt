@@ -1,47 +1,45 @@
 //! Jobs and what comes of them, held to the file `stdout`.
 #![tactic(auto)]
 
-use message::{JobError, Reason, compile_job};
+use message::{JobError, compile_job};
 use std::io;
 
 fn show(rt: &HostRuntime, job: &str) -> io::Result<()> {
     println!(rt; "{job}")?;
     match compile_job(rt.alloc(), job.as_bytes(), false) {
         Ok(text) => println!(rt; "=> {text}"),
-        Err(JobError::Memory) => println!(rt; "=> out of memory\n"),
-        Err(JobError::Refused(f)) => println!(rt; "=> {}\n", Reason(f)),
         Err(JobError::Line(line)) => println!(rt; "=> fault in line {line}\n"),
         Err(JobError::NoDevice) => println!(rt; "=> no device\n"),
         Err(JobError::NoLayout) => println!(rt; "=> no layout\n"),
+        Err(error) => println!(rt; "=> {error}\n"),
     }
 }
 
-fn compiled(rt: &HostRuntime) -> io::Result<()> {
-    show(rt, "mix 0; flip 1 if 0;\ndevice 2\njoined 0 1\nlay 1 0")?;
-    show(rt, "turn 9 of 0; mix 0; flip 0;\n\n  device 1\n\nlay 0\n")?;
-    show(
-        rt,
-        "flip 2 if 0 1;\ndevice 3\njoined 0 1\njoined 1 2\njoined 2 0\nlay 2 0 1",
-    )
-}
+const COMPILED: [&str; 3] = [
+    "mix 0; flip 1 if 0;\ndevice 2\njoined 0 1\nlay 1 0",
+    "turn 9 of 0; mix 0; flip 0;\n\n  device 1\n\nlay 0\n",
+    "flip 2 if 0 1;\ndevice 3\njoined 0 1\njoined 1 2\njoined 2 0\nlay 2 0 1",
+];
 
-fn refused(rt: &HostRuntime) -> io::Result<()> {
-    show(rt, "")?;
-    show(rt, "device 1\nlay")?;
-    show(rt, "mix 0;\ndevice 17\nlay 0")?;
-    show(rt, "mix 1;\ndevice 1\nlay 0")?;
-    show(rt, "mix 0;\ndevice 1\nlay 0 0")?;
-    show(rt, "flip 0; flip 1 if 1;\ndevice 2\njoined 0 1\nlay 0 1")?;
-    show(rt, "mix 1;\ndevice 2\njoined 0 1\nlay 1 1")?;
-    show(rt, "mix 0;\ndevice 3\njoined 0 1\nlay 0")?;
-    show(rt, "mix 0\ndevice 1\nlay 0")?;
-    show(rt, "mix 0;\ndevice 1\njoind 0 0\nlay 0")?;
-    show(rt, "mix 0;\ndevice 1\nlay 0\nlay 0")?;
-    show(rt, "mix 0;\ndevice 2\njoined 0 2\nlay 0")?;
-    show(rt, "mix 0;\ndevice 1")
-}
+const REFUSED: [&str; 13] = [
+    "",
+    "device 1\nlay",
+    "mix 0;\ndevice 17\nlay 0",
+    "mix 1;\ndevice 1\nlay 0",
+    "mix 0;\ndevice 1\nlay 0 0",
+    "flip 0; flip 1 if 1;\ndevice 2\njoined 0 1\nlay 0 1",
+    "mix 1;\ndevice 2\njoined 0 1\nlay 1 1",
+    "mix 0;\ndevice 3\njoined 0 1\nlay 0",
+    "mix 0\ndevice 1\nlay 0",
+    "mix 0;\ndevice 1\njoind 0 0\nlay 0",
+    "mix 0;\ndevice 1\nlay 0\nlay 0",
+    "mix 0;\ndevice 2\njoined 0 2\nlay 0",
+    "mix 0;\ndevice 1",
+];
 
 fn main(rt: HostRuntime) -> io::Result<()> {
-    compiled(&rt)?;
-    refused(&rt)
+    for job in COMPILED.iter().chain(&REFUSED) {
+        show(&rt, job)?;
+    }
+    Ok(())
 }

@@ -1,4 +1,5 @@
 -- A gate on a laid-out state.
+use Rattle.amplitude.proofs.RingLaws.{turned-nought}
 use Rattle.std.proofs.Common.{◌≡◌, ℕ, zero, suc, ◌<◌, Bool, true, false, cond, ◌&&◌, refl, ap, arith}
 use mathlib.Core.Path.{fun_ext}
 use Rattle.std.proofs.lemmas.Bool.{lt-ltb}
@@ -11,10 +12,6 @@ use Rattle.circuit.specs.declared.gate.Gate.TheVariants.{Phase, Hadamard, Not, C
 use Rattle.device.specs.Coupling.{Graph}
 use Rattle.device.specs.Layout.{Placed, free, rest_0, seen, laid}
 use Rattle.laws.specs.Rename.{renamed}
-
-pub turned-nought : (m : ℕ) → turned m nought ≡ nought
-turned-nought zero = refl
-turned-nought (suc m) = ap (turned 1) (turned-nought m)
 
 -- what lies at a qubit's place is what it has
 seen_at : (n : ℕ) (p : ℕ → ℕ) (b : Row) (q : ℕ) → q < n → seen n p b q ≡ b (p q)

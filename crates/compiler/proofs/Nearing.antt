@@ -9,7 +9,7 @@ use Rattle.device.specs.Coupling.{Graph, Connected}
 use Rattle.device.specs.Distances.{AllGrown, apart, onward}
 use Rattle.device.specs.Layout.{Placed}
 use Rattle.device.specs.declared.ways.Ways.{Ways}
-use Rattle.device.proofs.Distant.{apart_at, apart_low, apart-two, nearer}
+use Rattle.device.proofs.Distant.{apart_low, apart-one, apart-two, nearer}
 use Rattle.compiler.specs.Swaps.{Affordable}
 use Rattle.compiler.proofs.Doings.{other-here, other_away}
 
@@ -23,18 +23,13 @@ module _ (d : Graph) (w : Ways) (connected : ∥ Connected d ∥₁) (grown : �
   is_low a b ha hb = follows le_prop (λ cd all. apart_low d w all cd a b ha hb)
 
   -- two qubits that are not joined are two steps apart at least
-  pub is_far : {n : ℕ} {p : ℕ → ℕ} (x y : ℕ) → Placed n d p → (x < n) × (y < n) × (x ≡ y → ⊥) → false ≡ d.joined (p x) (p y) → 1 < apart w (p x) (p y)
-  is_far {p = p} x y l two nj =
-      follows le_prop (λ cd all. apart-two d w all cd (p x) (p y) (l.inside x two.0) (l.inside y two.1) (λ e. two.2 (l.apart x y two.0 two.1 e)) (λ e. both_ways _ (sym nj) e))
+  pub is_far : {n : ℕ} {p : ℕ → ℕ} {a b : ℕ} (x y : ℕ) → Placed n d p → (x < n) × (y < n) × (x ≡ y → ⊥) → a ≡ p x → b ≡ p y → false ≡ d.joined a b → 1 < apart w (p x) (p y)
+  is_far {p = p} x y l two ha hb nj =
+      follows le_prop (λ cd all. apart-two d w all cd (p x) (p y) (l.inside x two.0) (l.inside y two.1) (λ e. two.2 (l.apart x y two.0 two.1 e)) (λ e. both_ways _ (sym (nj ∙ ap₂ d.joined ha hb)) e))
 
   -- and two qubits one step at least
   pub is_apart : {n : ℕ} {p : ℕ → ℕ} (x y : ℕ) → Placed n d p → (x < n) × (y < n) × (x ≡ y → ⊥) → 0 < apart w (p x) (p y)
-  is_apart {p = p} x y l two = follows le_prop (λ cd all. apart-one (p x) (p y) (l.inside x two.0) (l.inside y two.1) (λ e. two.2 (l.apart x y two.0 two.1 e)) all)
-    where
-      apart-one : (a b : ℕ) → a < d.size → b < d.size → (a ≡ b → ⊥) → AllGrown d w → 0 < apart w a b
-      apart-one a b ha hb ne all =
-          let z : apart w a b ≡ 0 → ⊥ = λ e. ne (sym ((all.each a ha).only b hb (sym (apart_at d w all a ha b hb) ∙ e))) in
-          grind arith
+  is_apart {p = p} x y l two = follows le_prop (λ cd all. apart-one d w all cd (p x) (p y) (l.inside x two.0) (l.inside y two.1) (λ e. two.2 (l.apart x y two.0 two.1 e)))
 
   -- joined the same both ways
   pub is_even : (a b : ℕ) → a < d.size → b < d.size → d.joined a b ≡ d.joined b a

@@ -10,8 +10,8 @@ use Rattle.device.specs.Layout.{laid}
 use Rattle.laws.proofs.Same.{same_back}
 use Rattle.compiler.specs.Onward.{CarriedOnward}
 use Rattle.compiler.specs.Promise.{DoneBy}
-use Rattle.compiler.proofs.Laid.{turned-nought}
-use Rattle.compiler.proofs.Roots.{rooted-nought, laid_through}
+use Rattle.amplitude.proofs.RingLaws.{rooted-nought, turned-nought}
+use Rattle.compiler.proofs.Roots.{laid_through}
 
 -- the device's gates es in the place of ds
 by_same : (n : ℕ) (d : Graph) (p q : ℕ → ℕ) (cs ds es : List Gate) → Same es ds → DoneBy n d p q cs ds → DoneBy n d p q cs es

@@ -1,7 +1,8 @@
 -- What is known of a circuit that passes the checks.
-use Rattle.std.proofs.Common.{◌≡◌, ℕ, ◌*◌, ◌≤◌, Bool, true, false, ◌&&◌, eqb, ltb, leb, List, [], length, Some, None, Option, Result, sym, refl, ◌∙◌, arith}
+use Rattle.std.proofs.Common.{◌≡◌, ℕ, ◌*◌, ◌≤◌, ◌&&◌, eqb, ltb, leb, List, [], length, Some, None, Option, Result, sym, ◌∙◌, arith}
 use Rattle.std.proofs.lemmas.Bool.{eqb-true, leb-true, le-leb}
 use Rattle.circuit.proofs.Codes.{fit_from_misfit, misfit_from-fit}
+use Rattle.circuit.proofs.Unrefused.{or-none, unless-none, at_none}
 use Rattle.circuit.specs.Circuit.{AllFit}
 use Rattle.circuit.specs.Refusals.{or_else, unless, at_place, misfit_from}
 use Rattle.circuit.specs.declared.gate.Gate.{Gate}
@@ -11,18 +12,6 @@ use Rattle.circuit.specs.declared.refusal.Refusal.TheVariants as refusal
 use Rattle.device.specs.Checks.{beyond_from, misplaced_from}
 use Rattle.compiler.specs.Refuses.{sizes_refused, circuit_refused, Outcome, Compiles}
 
-both : (a b : Option Refusal) → or_else a b ≡ None → (a ≡ None) × (b ≡ None)
-both (Some f) b e = absurd (let z : ◌≡◌ {A = ℕ} 0 1 = cc in omega arith)
-both None b e = (refl, e)
-
-held : (t : Bool) (f : Refusal) → unless t f ≡ None → t ≡ true
-held true f e = refl
-held false f e = absurd (let z : ◌≡◌ {A = ℕ} 0 1 = cc in omega arith)
-
-nowhere : (f : ℕ → Refusal) (o : Option ℕ) → at_place f o ≡ None → o ≡ None
-nowhere f None e = refl
-nowhere f (Some p) e = absurd (let z : ◌≡◌ {A = ℕ} 0 1 = cc in omega arith)
-
 pub record Passed (n size : ℕ) (place : List ℕ) (gs : List Gate) : Type 0 where
   pub long : length place ≡ n
   pub few : length gs ≤ 256
@@ -31,19 +20,19 @@ pub record Passed (n size : ℕ) (place : List ℕ) (gs : List Gate) : Type 0 wh
 
 pub passed : (n size : ℕ) (joined place : List ℕ) (gs : List Gate) (out : ℕ) → circuit_refused n size joined place gs out ≡ None → Passed n size place gs
 passed n size joined place gs out e =
-    let a = both (sizes_refused n size (length joined) (length place) (leb (length gs) 256) out) _ e in
-    let first = both (unless (ltb 0 n) (Qubits 0)) _ a.0 in
-    let second = both (unless (leb n size && leb size 16) (Qubits 1)) _ first.1 in
-    let third = both (unless (eqb (length joined) (size * size)) (Length 0)) _ second.1 in
-    let fourth = both (unless (eqb (length place) n) (Length 1)) _ third.1 in
-    let fifth = both (unless (leb (length gs) 256) (Length 2)) (unless (eqb out n) (Length 4)) fourth.1 in
-    let b = both (at_place Number (beyond_from 2 0 joined)) _ a.1 in
-    let g = both (at_place refusal.Gate (misfit_from n 0 gs)) (at_place Layout (misplaced_from size [] 0 place)) b.1 in
+    let a = or-none (sizes_refused n size (length joined) (length place) (leb (length gs) 256) out) _ e in
+    let first = or-none (unless (ltb 0 n) (Qubits 0)) _ a.0 in
+    let second = or-none (unless (leb n size && leb size 16) (Qubits 1)) _ first.1 in
+    let third = or-none (unless (eqb (length joined) (size * size)) (Length 0)) _ second.1 in
+    let fourth = or-none (unless (eqb (length place) n) (Length 1)) _ third.1 in
+    let fifth = or-none (unless (leb (length gs) 256) (Length 2)) (unless (eqb out n) (Length 4)) fourth.1 in
+    let b = or-none (at_place Number (beyond_from 2 0 joined)) _ a.1 in
+    let g = or-none (at_place refusal.Gate (misfit_from n 0 gs)) (at_place Layout (misplaced_from size [] 0 place)) b.1 in
     record {
-      long = eqb-true (length place) n (held (eqb (length place) n) (Length 1) fourth.0);
-      few = leb-true (length gs) 256 (held (leb (length gs) 256) (Length 2) fifth.0);
-      fit = fit_from_misfit n 0 gs (nowhere refusal.Gate (misfit_from n 0 gs) g.0);
-      placed = nowhere Layout (misplaced_from size [] 0 place) g.1;
+      long = eqb-true (length place) n (unless-none (eqb (length place) n) (Length 1) fourth.0);
+      few = leb-true (length gs) 256 (unless-none (leb (length gs) 256) (Length 2) fifth.0);
+      fit = fit_from_misfit n 0 gs (at_none refusal.Gate (misfit_from n 0 gs) g.0);
+      placed = at_none Layout (misplaced_from size [] 0 place) g.1;
     }
 
 -- a circuit that is not longer and fits passes where another passed

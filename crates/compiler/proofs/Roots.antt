@@ -7,11 +7,7 @@ use Rattle.circuit.specs.Circuit.{Row, State, run, mixes}
 use Rattle.device.specs.Coupling.{Graph}
 use Rattle.device.specs.Layout.{rest_0, seen, laid}
 use Rattle.compiler.specs.Route.{Exactly, DoneThrough}
-use Rattle.compiler.proofs.Laid.{turned-nought}
-
-pub rooted-nought : (t : ℕ) → rooted t nought ≡ nought
-rooted-nought zero = refl
-rooted-nought (suc t) = ap (rooted 1) (rooted-nought t)
+use Rattle.amplitude.proofs.RingLaws.{rooted-nought, turned-nought}
 
 -- what leaves nought alone goes with laying out
 pub laid_through : (n : ℕ) (d : Graph) (q : ℕ → ℕ) (T : Amplitude → Amplitude) → T nought ≡ nought → (s : State) (b : Row) → laid n d q (λ c. T (s c)) b ≡ T (laid n d q s b)

@@ -1,10 +1,12 @@
 -- What is written into a room, and how much at most.
-use Rattle.std.specs.Prelude.{◌≡◌, ℕ, ◌+◌, List, [], ◌∷◌, ◌++◌, length, drop}
+use Rattle.std.specs.Prelude.{◌≡◌, ℕ, ◌+◌, ◌≤◌, List, [], ◌∷◌, ◌++◌, length, drop}
 use Rattle.circuit.specs.declared.gate.Gate.{Gate}
 use Rattle.circuit.specs.declared.gate.Gate.TheVariants.{Phase, Hadamard, Not, ControlledNot, Toffoli}
 use Rattle.circuit.specs.Code.{codes}
+use Rattle.circuit.specs.Circuit.{Fit}
 use Rattle.device.specs.Coupling.{Graph}
-use Rattle.compiler.specs.Route.{Doing}
+use Rattle.device.specs.Layout.{Placed, at}
+use Rattle.compiler.specs.Route.{Doing, Plain}
 
 -- a list written over the front of another
 abbrev pub over : {X : Type 0} → List X → List X → List X
@@ -28,3 +30,10 @@ cost (Toffoli a b c) = 1068
 abbrev pub costs : List Gate → ℕ
 costs [] = 0
 costs (g ∷ gs) = cost g + costs gs
+
+-- a gate that can be brought onto the device: its qubits are laid, it is no Toffoli, and the room is enough
+pub record Routable (d : Graph) (place : List ℕ) (g : Gate) (room : List ℕ) : Type 0 where
+  pub placed : Placed (length place) d (at place)
+  pub plain : Plain g
+  pub fits : Fit (length place) g
+  pub enough : cost g ≤ length room

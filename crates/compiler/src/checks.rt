@@ -1,13 +1,13 @@
 //! Whether a device, a layout and a circuit can be taken, by the first check that fails.
 ghost use Rattle.std.specs.Prelude.{length};
-ghost use Rattle.circuit.specs.Refusals.{Checked, at_place, unless};
+ghost use Rattle.circuit.specs.Refusals.{Checked, at_place};
 ghost use Rattle.device.specs.Checks.{beyond_from};
 ghost use Rattle.compiler.specs.Refuses.{circuit_refused, own_refused, sizes_refused};
 
-use circuit::{Gate, Refusal, first_fault, first_misfit};
+use circuit::{Gate, Refusal, check_gates, check_numbers, refuse};
 use device::{first_beyond, first_misplaced};
 
-/// What a circuit comes with: its number of qubits, a device by its size and its wires, a layout, and the length of the list for the final layout.
+/// What a circuit comes with, as the interface gives it and unchecked: its number of qubits, a device by its size and its wires, a layout, and how long the list for the final layout is, which is itself lent to be written.
 #[derive(Clone, Copy)]
 pub struct Request<'a> {
     pub n: u64,
@@ -17,32 +17,18 @@ pub struct Request<'a> {
     pub out: usize,
 }
 
-/// A refusal unless a test holds.
-fn unless(holds: bool, refusal: Refusal) -> Result<(), Refusal>
-    ensures { Checked (unless holds refusal) result }
-{
-    if holds { Ok(()) } else { Err(refusal) }
-}
-
-/// The refusal, if there is one.
-fn refuse(refusal: Option<Refusal>) -> Result<(), Refusal>
-    ensures { Checked refusal result }
-{
-    refusal.map_or(Ok(()), Err)
-}
-
 impl Request<'_> {
     /// How many qubits there are, and how long the lists are; `few` says that there are not too many gates.
     fn check_sizes(&self, few: bool) -> Result<(), Refusal>
         ensures { Checked (sizes_refused self.now.n self.now.size (length self.now.joined.now) (length self.now.place.now) few self.now.out) result }
     {
-        unless(0 < self.n, Refusal::Qubits(0))?;
-        unless(self.n <= self.size && self.size <= 16, Refusal::Qubits(1))?;
+        Refusal::Qubits(0).unless(0 < self.n)?;
+        Refusal::Qubits(1).unless(self.n <= self.size && self.size <= 16)?;
         let joined = self.joined.len() as u64;
-        unless(joined == self.size * self.size, Refusal::Length(0))?;
-        unless(self.place.len() as u64 == self.n, Refusal::Length(1))?;
-        unless(few, Refusal::Length(2))?;
-        unless(self.out as u64 == self.n, Refusal::Length(4))
+        Refusal::Length(0).unless(joined == self.size * self.size)?;
+        Refusal::Length(1).unless(self.place.len() as u64 == self.n)?;
+        Refusal::Length(2).unless(few)?;
+        Refusal::Length(4).unless(self.out as u64 == self.n)
     }
 
     /// Whether each number of a wire is nought or one.
@@ -58,7 +44,7 @@ impl Request<'_> {
     {
         self.check_sizes(gates.len() <= 256)?;
         self.check_wires()?;
-        refuse(first_misfit(self.n, gates).map(|gate| Refusal::Gate(gate as u64)))?;
+        check_gates(self.n, gates)?;
         refuse(first_misplaced(self.size, self.place).map(|qubit| Refusal::Layout(qubit as u64)))
     }
 
@@ -68,6 +54,6 @@ impl Request<'_> {
     {
         self.check_sizes(gates.len() % 4 == 0 && gates.len() <= 1024)?;
         self.check_wires()?;
-        refuse(first_fault(gates).map(|number| Refusal::Number(number as u64)))
+        check_numbers(gates)
     }
 }

@@ -69,7 +69,7 @@ fn expand(gate: Gate, out: &mut [Gate]) -> usize
 }
 
 /// Each Toffoli by its fifteen gates, the others as they are, and how many.
-// A lent room and a count: the entries on numbers allocate nothing, and a part of the room that is handed back would leave nothing to say of the room.
+// A lent room and a count: the entries on numbers allocate nothing, and the count tells how much of the room is written.
 pub fn decompose(gates: &[Gate], out: &mut [Gate]) -> usize
     requires { 15 * length gates.now ≤ length out.old }
     ensures count { result ≡ length (expanded gates.now) }

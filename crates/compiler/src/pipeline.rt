@@ -9,7 +9,7 @@ ghost use Rattle.compiler.specs.Refuses.{Compiles, circuit_refused, numbers_refu
 use crate::checks::Request;
 use crate::decomposition::decompose;
 use crate::routing::route;
-use circuit::{Gate, Refusal, decode};
+use circuit::{Gate, Refusal, decode_in};
 use device::{Device, Fault, connected, device_from};
 
 /// How many numbers of room each number of a circuit is sure to find enough.
@@ -19,12 +19,11 @@ const ROOM: usize = 300;
 fn check_connected(device: &Device) -> Result<(), Refusal>
     ensures { elim result [ Ok _ ↦ Connected (graph_of device.now) | Err refusal ↦ (p : ℕ) × (refusal ≡ Refusal.Device p) × CutOff (graph_of device.now) p ] }
 {
-    match connected(device) {
-        Ok(()) => Ok(()),
-        Err(Fault::OneWay(a, b) | Fault::Apart(a, b)) => {
-            Err(Refusal::Device((a * device.size + b) as u64))
+    connected(device).map_err(|fault| match fault {
+        Fault::OneWay(a, b) | Fault::Apart(a, b) => {
+            Refusal::Device((a * device.size + b) as u64)
         }
-    }
+    })
 }
 
 /// Brings a circuit of n qubits onto a device: writes the device's gates into the room, and the final layout into `place_out`. How many gates stand in the room.
@@ -51,10 +50,12 @@ pub fn compile_circuit(
     request.check_circuit(gates)?;
     let device = device_from(size as usize, joined);
     check_connected(&device)?;
+    // By `if`, so that the proof has the order of the two lengths at hand, and not a test of it.
     if room.len() < ROOM * 4 * gates.len() {
         return Err(Refusal::Room(room.len() as u64));
     }
     place_out.copy_from_slice(place);
+    // A fixed room for the most gates, since nothing is allocated.
     let mut buffer = [Gate::Not(0); 3840];
     let count = decompose(gates, &mut buffer);
     let numbers = route(&device, &buffer[..count], place_out, room);
@@ -83,8 +84,8 @@ pub fn compile(
         out,
     };
     request.check_numbers(gates)?;
+    // A fixed room for the most gates, since nothing is allocated.
     let mut buffer = [Gate::Not(0); 256];
-    let list = &mut buffer[..gates.len() / 4];
-    decode(gates, list);
-    compile_circuit(n, size, joined, place, list, room, place_out)
+    let gates = decode_in(&mut buffer, gates);
+    compile_circuit(n, size, joined, place, gates, room, place_out)
 }

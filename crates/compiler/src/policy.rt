@@ -13,6 +13,7 @@ pub struct View<'a> {
 
 /// Proposes swaps on the way of two qubits, which lie at a and b, to each other.
 pub trait Policy {
+    // Places and no qubits: each swap moves what lies there, so they are read anew from the layout.
     fn propose(&self, view: View<'_>, a: u8, b: u8) -> Option<Swap>;
 }
 
@@ -22,29 +23,26 @@ const WEIGHTS: [u8; 8] = [128, 64, 32, 16, 8, 4, 2, 1];
 impl View<'_> {
     /// Whether a swap is one step toward a place.
     fn leads(self, step: Swap, to: u8) -> bool {
-        let (from, next, to) = (step.x as usize, step.y as usize, to as usize);
+        let [from, next, to] = [step.x, step.y, to].map(usize::from);
         self.ways.distance(from, next) == 1
             && self.ways.distance(next, to) < self.ways.distance(from, to)
     }
 
-    /// How far two qubits are apart after a swap.
-    fn apart_after(self, control: u8, target: u8, swap: Swap) -> u8 {
-        let control = self.place.get(control as usize);
-        let target = self.place.get(target as usize);
-        control.zip(target).map_or(0, |(a, b)| {
-            self.ways
-                .distance(swap.moved(*a) as usize, swap.moved(*b) as usize)
-        })
+    /// How far two qubits are apart after a swap, if both are laid.
+    fn apart_after(self, control: u8, target: u8, swap: Swap) -> Option<u8> {
+        let a = *self.place.get(usize::from(control))?;
+        let b = *self.place.get(usize::from(target))?;
+        let (a, b) = (swap.moved(a), swap.moved(b));
+        Some(self.ways.distance(usize::from(a), usize::from(b)))
     }
 
     /// How far the qubits of the controlled NOTs to come are apart after a swap, the nearer gates counting more.
     fn apart_ahead(self, swap: Swap) -> u32 {
         let apart = self.later.iter().filter_map(|gate| match *gate {
-            Gate::ControlledNot { control, target } => {
-                Some(self.apart_after(control, target, swap))
-            }
+            Gate::ControlledNot { control, target } => self.apart_after(control, target, swap),
             _ => None,
         });
+        // Saturating: the bound that `sum` would ask for is not proved.
         WEIGHTS
             .iter()
             .zip(apart)
@@ -60,12 +58,13 @@ pub struct LookAhead;
 
 impl Policy for LookAhead {
     fn propose(&self, view: View<'_>, a: u8, b: u8) -> Option<Swap> {
-        let of_b = (0..16)
-            .map(|next| Swap { x: b, y: next })
-            .filter(|step| view.leads(*step, a));
-        let of_a = (0..16)
-            .map(|next| Swap { x: a, y: next })
-            .filter(|step| view.leads(*step, b));
-        of_b.chain(of_a).min_by_key(|step| view.apart_ahead(*step))
+        let steps = |from: u8, to: u8| {
+            (0..16)
+                .map(move |next| Swap { x: from, y: next })
+                .filter(move |step| view.leads(*step, to))
+        };
+        steps(b, a)
+            .chain(steps(a, b))
+            .min_by_key(|step| view.apart_ahead(*step))
     }
 }

@@ -23,8 +23,10 @@ impl<P: Policy> Router<'_, P> {
         let Swap { x, y } = swap;
         let apart = self
             .ways
-            .distance(swap.moved(a) as usize, swap.moved(b) as usize);
-        x != y && self.device.joins(x as usize, y as usize) && made + apart as usize <= SWAPS
+            .distance(usize::from(swap.moved(a)), usize::from(swap.moved(b)));
+        x != y
+            && self.device.joins(usize::from(x), usize::from(y))
+            && made + usize::from(apart) <= SWAPS
     }
 
     /// The next swap on the way of two qubits, which lie at a and b, to each other: the one that is proposed if it can be made, else one step of b straight toward a.
@@ -39,7 +41,7 @@ impl<P: Policy> Router<'_, P> {
         match self.policy.propose(view, a, b) {
             Some(swap) if self.affords(swap, a, b, made) => swap,
             _ => Swap {
-                x: self.ways.toward(a as usize, b as usize),
+                x: self.ways.toward(usize::from(a), usize::from(b)),
                 y: b,
             },
         }
@@ -63,9 +65,10 @@ impl<P: Policy> Router<'_, P> {
         ensures near { (graph_of self.now.device.now).joined (slice_index place.new control) (slice_index place.new target) ≡ true }
     {
         let mut made = 0;
+        // Where the qubits lie ends this, and the count says how much room is used.
         while !self
             .device
-            .joins(place[control] as usize, place[target] as usize)
+            .joins(usize::from(place[control]), usize::from(place[target]))
         {
             let swap = self.next_swap(later, place, place[control], place[target], made);
             swap.write(&mut room[12 * made..]);

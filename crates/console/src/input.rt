@@ -1,4 +1,7 @@
 //! What a program is given, and how it ends.
+ghost use Rattle.std.specs.Prelude.{◌≡◌, Ok, Err, option_map};
+ghost use Rattle.console.specs.Pages.{asked};
+
 use std::io::Read;
 use std::process::ExitCode;
 use std::{fmt, fs, io};
@@ -7,6 +10,7 @@ use std::{fmt, fs, io};
 #[derive(Clone, Copy, PartialEq, Eq, Debug)]
 pub struct NoAnswer;
 
+// By hand: the error is let go, as a derived `From` would not.
 impl From<io::Error> for NoAnswer {
     fn from(_e: io::Error) -> NoAnswer {
         NoAnswer
@@ -14,10 +18,23 @@ impl From<io::Error> for NoAnswer {
 }
 
 /// How a program ends: an error that `main` returned would be written once more.
-pub fn exit_code(answer: Result<(), NoAnswer>) -> ExitCode {
+pub fn exit_code(answer: Result<(), NoAnswer>) -> ExitCode
+    ensures { result ≡ elim answer [ Ok _ ↦ ExitCode.SUCCESS | Err _ ↦ ExitCode.FAILURE ] }
+{
     match answer {
         Ok(()) => ExitCode::SUCCESS,
         Err(NoAnswer) => ExitCode::FAILURE,
+    }
+}
+
+/// The page that a first argument asks for, if it asks for one.
+pub fn page<'a>(word: &str, help: &'a str, version: &'a str) -> Option<&'a str>
+    ensures { option_map (λ p. p.now) result ≡ asked help.now version.now word.now }
+{
+    match word {
+        "--help" => Some(help),
+        "--version" => Some(version),
+        _ => None,
     }
 }
 

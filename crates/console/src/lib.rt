@@ -4,5 +4,5 @@
 mod input;
 mod refusal;
 
-pub use input::{NoAnswer, exit_code, fail, read_input};
+pub use input::{NoAnswer, exit_code, fail, page, read_input};
 pub use refusal::{explain, point};

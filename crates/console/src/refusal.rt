@@ -1,20 +1,33 @@
-//! Saying where and why a text is refused.
+//! Saying where and why a text is refused. The runtime, a name and a text come apart, as the programs are given them.
 use crate::input::NoAnswer;
 use circuit::Refusal;
 use diagnosis::{Fault, diagnose, offer};
-use message::{Reason, position_of, show_place};
+use message::{Position, Reason, position_of, show_place};
+use std::fmt;
+
+/// Says where a text is refused, and why.
+fn say<W: fmt::Display + Drop>(
+    rt: &HostRuntime,
+    name: &str,
+    at: Position,
+    why: W,
+) -> Result<(), NoAnswer> {
+    Ok(eprintln!(rt; "{name}:{}:{}: {why}", at.line, at.column)?)
+}
+
+/// Shows the line that holds a place.
+fn show(rt: &HostRuntime, text: &[u8], at: Position) -> Result<(), NoAnswer> {
+    if let Ok(Some(shown)) = show_place(rt.alloc(), text, at) {
+        eprint!(rt; "{shown}")?;
+    }
+    Ok(())
+}
 
 /// Says at which sign a text is refused, and shows it.
 pub fn point(rt: &HostRuntime, name: &str, text: &[u8], sign: u64) -> Result<(), NoAnswer> {
     let at = position_of(text, sign);
-    let line = at.line;
-    let column = at.column;
-    let reason = Reason(Refusal::Text(sign));
-    eprintln!(rt; "{name}:{line}:{column}: {reason}")?;
-    if let Ok(shown) = show_place(rt.alloc(), text, at) {
-        eprint!(rt; "{shown}")?;
-    }
-    Ok(())
+    say(rt, name, at, Reason(Refusal::Text(sign)))?;
+    show(rt, text, at)
 }
 
 /// Says what could stand at a sign instead, unless the fault is not of that sign alone.
@@ -37,15 +50,16 @@ pub fn explain(
     sign: u64,
 ) -> Result<(), NoAnswer> {
     let at = position_of(text, sign);
-    let line = at.line;
-    let column = at.column;
+    // The number and sign stand twice: an optional fault shown by a type of its own would be no plainer.
     let Ok(fault) = diagnose(rt.alloc(), text, limit, sign) else {
-        eprintln!(rt; "{name}:{line}:{column}: refused 9 at sign {sign}")?;
-        return Ok(());
+        return say(rt, name, at, format_args!("refused 9 at sign {sign}"));
     };
-    eprintln!(rt; "{name}:{line}:{column}: refused 9 at sign {sign}: {fault}")?;
-    if let Ok(shown) = show_place(rt.alloc(), text, at) {
-        eprint!(rt; "{shown}")?;
-    }
+    say(
+        rt,
+        name,
+        at,
+        format_args!("refused 9 at sign {sign}: {fault}"),
+    )?;
+    show(rt, text, at)?;
     suggest(rt, text, sign, fault)
 }

@@ -12,6 +12,10 @@ pub record Swept (d : Graph) (far : List ℕ) (e y : ℕ) : Type 0 where
   pub edge : (x : ℕ) → x < d.size → get_or far x 0 < 255 → get_or far x 0 ≤ e + 1
   pub done : (x : ℕ) → x < y → x < d.size → (k : ℕ) → k < d.size → get_or far x 0 ≡ e → d.joined x k ≡ true → get_or far k 0 < 255
 
+-- none of the places below y is reached in e steps
+abbrev pub Bare : Graph → List ℕ → ℕ → ℕ → Type 0
+Bare d far e y = (x : ℕ) → x < y → x < d.size → get_or far x 0 ≡ e → ⊥
+
 -- at most all are reached
 pub reached_most : (xs : List ℕ) → reached xs ≤ length xs
 reached_most [] = omega arith
@@ -145,6 +149,13 @@ module _ (d : Graph) (a : ℕ) (le : d.size ≤ 16) (ha : a < d.size) where
 -- sixteen levels are all
 pub all-shut : (d : Graph) (a : ℕ) (far up : List ℕ) → Grown d a far up → (e : ℕ) → 16 ≤ e → Closed d far e → Shut d far
 all-shut d a far up g e he c x k hx hk z u = c.shut x k hx hk (omega (arith, g.low x hx z, reached_most far, g.wide)) u
+
+-- a level that has no place is the last
+pub bare-shut : (d : Graph) (a : ℕ) (far up : List ℕ) → Grown d a far up → (e y : ℕ) → d.size ≤ y → e < 200 → Swept d far e y → Bare d far e y → Shut d far
+bare-shut d a far up g e y hy he s b x k hx hk z u = s.shut x k hx hk (omega (arith, s.edge x hx z, b x (omega arith) hx, beyond)) u
+  where
+    beyond : get_or far x 0 ≡ e + 1 → ⊥
+    beyond f = let i = g.inside x hx (omega arith) z in b (get_or up x 0) (omega arith) i (omega (arith, g.step x hx (omega arith) z))
 
 -- what is reached can be gone to, and what is not cannot
 way_by : (d : Graph) (a : ℕ) (far up : List ℕ) → Grown d a far up → (n x : ℕ) → x < d.size → get_or far x 0 < 255 → get_or far x 0 ≡ n → Way d a x

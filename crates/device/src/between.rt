@@ -18,14 +18,14 @@ impl Ways {
         *self.hops.get(a)?.get(b)?
     }
 
-    /// How far two places are apart: 255, which is farther than any, where no way leads.
+    /// How far two places are apart: 255, which is farther than any, where no way leads, so that distances compare without a case.
     pub fn distance(&self, a: usize, b: usize) -> u8
         ensures { result ≡ apart self.now a b }
     {
         self.hop(a, b).map_or(u8::MAX, |hop| hop.distance)
     }
 
-    /// The next place on the way from b to a, one step nearer, or a itself from a; 0 where no way leads.
+    /// The next place on the way from b to a, one step nearer, or a itself from a. Its contract speaks of it where a way leads, so that no caller takes an Option apart; where none does it is 0.
     pub fn toward(&self, a: usize, b: usize) -> u8
         ensures value { result ≡ onward self.now a b }
         ensures nearer { (d : Graph) → AllGrown d self.now → 0 < apart self.now a b → apart self.now a b < 255 → Nearer d self.now a b result }

@@ -32,6 +32,10 @@ fn first_unreached(hops: &[Option<Hop>]) -> Option<usize>
     hops.iter().position(Option::is_none)
 }
 
+// Two `for`s: no library lemma tells what `find_map` over a range found, and one function for both takes closures with clauses, longer than the loops.
+
+// Each check says by `Shows` what its error shows; what it says where it passes is its own.
+
 /// Every wire leads both ways.
 fn even(device: &Device) -> Result<(), Fault>
     ensures { elim result [ Ok _ ↦ Even (graph_of device.now) | Err fault ↦ Shows (graph_of device.now) fault ] }

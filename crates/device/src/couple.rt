@@ -24,13 +24,14 @@ fn row(size: usize, joined: &[u8], a: usize) -> [bool; 16]
     array::from_fn(|b| a < size && b < size && joined[a * size + b] == 1)
 }
 
-/// The device that a table of noughts and ones says, row by row.
+/// The device that a table of noughts and ones says, row by row; size and table come apart, as the interface gives them.
 pub fn device_from(size: usize, joined: &[u8]) -> Device
     requires small { size ≤ 16 }
     requires long { length joined.now ≡ size * size }
     ensures { graph_of result ≡ graph_in size joined.now }
 {
     let mut table = [[false; 16]; 16];
+    // With `from_fn` the closure needs three clauses of its own.
     for (a, wires) in table.iter_mut().enumerate() {
         *wires = row(size, joined, a);
     }

@@ -1,13 +1,21 @@
 -- Every sign is tried.
-use Rattle.std.proofs.Common.{◌≡◌, ℕ, zero, suc, ◌+◌, ◌<◌, Bool, true, false, cond, List, [], ◌∷◌, ◌++◌, length, get_or, take, filter, sym, ap, ◌∙◌, subst, ⊎_elim, append-nil, arith}
+use Rattle.std.proofs.Common.{◌≡◌, ℕ, zero, suc, ◌+◌, ◌<◌, Bool, true, false, cond, List, [], ◌∷◌, ◌++◌, length, get_or, take, filter, map, add-one, refl, sym, ap, ◌∙◌, subst, ⊎_elim, append-nil, arith}
 use mathlib.Core.Bool.{false≢true}
 use Rattle.std.proofs.lemmas.List.Elements.{filter_more}
 use Rattle.std.proofs.ByRecursion.{has_append_left, has_append_right, has_push, has_get_or, all-has, All-weaker, kept_by_passes}
 use Rattle.std.proofs.lemmas.Bool.{cases_lt}
+use Rattle.std.proofs.lemmas.List.FromFn.{map-range_with_len_more}
+use Rattle.std.specs.List.{range_with_len}
 use Rattle.std.specs.List.{ContainsAt as Has, AllByRecursion as All}
 use Rattle.text.specs.declared.token.Token.{Token}
 use Rattle.text.specs.declared.token.Token.TheVariants.{Turn, Of, Mix, Flip, If, Device, Joined, Lay, Undo, Times, Block, Call, On, Number, Open, Close, Semicolon, Other}
 use Rattle.diagnosis.specs.Standing.{Sign, words, numbers}
+
+pub numbers-are : (n : ℕ) → map Number (range_with_len 0 n) ≡ numbers n
+unfolding numbers
+numbers-are zero = refl
+numbers-are (suc n) =
+    ap (λ m. map Number (range_with_len 0 m)) (sym (add-one n)) ∙ map-range_with_len_more Number 0 n n (omega arith) ∙ ap (λ ts. ts ++ Number n ∷ []) (numbers-are n)
 
 number-has : (m n : ℕ) → n < m → Has (numbers m) (Number n)
 unfolding numbers

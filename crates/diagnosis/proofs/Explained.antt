@@ -55,6 +55,7 @@ all_front zero bs a = tt
 all_front (suc k) [] a = tt
 all_front (suc k) (b ∷ bs) a = (a.0, all_front k bs a.1)
 
+-- of a source itself; that of texts is of what begins
 front_begins : (s : Source) (ts : List Token) (k : ℕ) → text_of s ≡ ts → AllTrue (checks_of s) → length ts ≤ 4096 → k ≤ length ts → Begins (take k ts)
 front_begins s ts k e a brief within = record {
   more = drop k ts;

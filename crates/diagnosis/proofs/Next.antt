@@ -1,13 +1,14 @@
 -- What a reader takes next is what a text can go on with.
-use Rattle.std.proofs.Common.{◌≡◌, ℕ, zero, suc, ◌+◌, ◌<◌, ◌≤◌, Bool, true, false, List, [], ◌∷◌, ◌++◌, length, take, is_some, Some, None, Ok, Err, filter, Option, sym, refl, ap, ◌∙◌, subst, true≢false, append_assoc, arith, length-append}
+use Rattle.std.proofs.Common.{◌≡◌, ℕ, zero, suc, ◌+◌, ◌<◌, ◌≤◌, Bool, true, false, List, [], ◌∷◌, ◌++◌, length, take, is_some, Some, None, Ok, Err, filter, Option, MatchOption, sym, refl, ap, ◌∙◌, subst, true≢false, append_assoc, ⊎_elim, arith, length-append}
 use mathlib.Core.Bool.{false≢true}
-use Rattle.std.proofs.lemmas.Bool.{cond-true, cond-false}
+use Rattle.std.proofs.lemmas.Bool.{cases_lt, cond-true, cond-false}
 use Rattle.circuit.specs.declared.refusal.Refusal.{Refusal}
 use Rattle.circuit.specs.declared.refusal.Refusal.TheVariants.{Text}
+use Rattle.text.specs.declared.reader.Reader.{Reader}
 use Rattle.text.specs.declared.token.Token.{Token}
 use Rattle.text.specs.Accept.{accepts}
 use Rattle.text.specs.Program.{known, checks, blocks_checks, AllTrue, checks_of, Begins}
-use Rattle.text.specs.Reading.{State, step, follow, runs, begins, finished, complete}
+use Rattle.text.specs.Reading.{State, view, step, follow, runs, begins, finished, complete}
 use Rattle.text.specs.Spelling.{Spells}
 use Rattle.text.proofs.Accepts.{accepts_any}
 use Rattle.text.proofs.Said.{differ, final, source-read, not-begun}
@@ -18,6 +19,7 @@ use Rattle.text.proofs.Parts.{all_append}
 use Rattle.text.proofs.Spelt.{cut-is}
 use Rattle.text.proofs.Steps.{short}
 use Rattle.text.proofs.Written.{then, runs_append}
+use Rattle.diagnosis.specs.Front.{Reads, ReadsFew}
 use Rattle.diagnosis.specs.Standing.{CouldFollow, Readable, IsReadable, words, numbers}
 use Rattle.diagnosis.proofs.Candidates.{every_sign, kept_passes, kept-has}
 
@@ -90,14 +92,18 @@ refused_begins us r e b =
 pub by_front : (P : List Token → Type 0) (bs : List ℕ) (signs front : List Token) (i : ℕ) → Spells bs signs → front ≡ take i signs → P front → (ts : List Token) → Spells bs ts → P (take i ts)
 by_front P bs signs front i s e h ts t = subst P (e ∙ ap (take i) (cut-is bs signs s ∙ sym (cut-is bs ts t))) h
 
+pub reads_few : (most : ℕ) (us : List Token) (o : Option Reader) → length us ≤ most → Reads us o → ReadsFew most us o
+reads_few most us (Some r) h e = (h, e)
+reads_few most us None h e = λ _. e
+
 module _ (us : List Token) where
-  pub stand_full : 4096 ≤ length us → CouldFollow us []
+  stand_full : 4096 ≤ length us → CouldFollow us []
   stand_full full = record {
     may = λ t h. absurd (omega (arith, h.1));
     all = λ t _ b. absurd (omega (arith, b.brief, length-append us (t ∷ [])));
   }
 
-  pub stand_refused : (r : Refusal) → runs 0 begins 0 us ≡ Err r → CouldFollow us []
+  stand_refused : (r : Refusal) → runs 0 begins 0 us ≡ Err r → CouldFollow us []
   stand_refused r e = record {
     may = λ t h. absurd (omega (arith, h.1));
     all = λ t _ b. absurd (refused_begins us r e (begins_less us t b));
@@ -109,13 +115,16 @@ module _ (us : List Token) where
     all = λ t small b. kept-has (accepts s) (words ++ numbers 256) t (every_sign t small) (not_false (accepts s t) (λ no. next-stops us s t e no b));
   }
 
-  pub end_full : 4096 < length us → IsReadable us false
+  pub stand_none : ReadsFew 4095 us None → CouldFollow us []
+  stand_none h = ⊎_elim (λ few. let e = h (omega arith) in stand_refused e.0 e.1) stand_full (cases_lt (length us) 4096)
+
+  end_full : 4096 < length us → IsReadable us false
   end_full full = record { may = λ e. absurd (false≢true e); all = λ b. absurd (omega (arith, b.brief)) }
 
   source-reads : Readable us → (s : State) × (finished (length us) (runs 0 begins 0 us) ≡ Ok s)
   source-reads b = (final 0 b.source, sym (short 0 us b.brief) ∙ source-read 0 b.source us b.text b.fine b.brief)
 
-  pub end_refused : (r : Refusal) → runs 0 begins 0 us ≡ Err r → IsReadable us false
+  end_refused : (r : Refusal) → runs 0 begins 0 us ≡ Err r → IsReadable us false
   end_refused r e = record {
     may = λ f. absurd (false≢true f);
     all = λ b. let x = source-reads b in absurd (differ _ x.0 r x.1 (ap (finished (length us)) e));
@@ -128,3 +137,10 @@ module _ (us : List Token) where
         record { source = record { blocks = w.blocks; program = w.program }; text = w.text; fine = all_append (blocks_checks w.blocks) (checks 256 (known w.blocks) w.program) w.fine-blocks w.fine; brief = brief };
     all = λ b. let x = source-reads b in not_false (complete s) (λ no. differ _ x.0 (Text (length us)) x.1 (ap (finished (length us)) e ∙ cond-false _ _ _ no));
   }
+
+  pub end_none : ReadsFew 4096 us None → IsReadable us false
+  end_none h = ⊎_elim end_full (λ few. let e = h few in end_refused e.0 e.1) (cases_lt 4096 (length us))
+
+  pub end_is : (o : Option Reader) (b : Bool) → MatchOption o (b ≡ false) (λ r. b ≡ complete (view r)) → ReadsFew 4096 us o → IsReadable us b
+  end_is None b e h = subst (IsReadable us) (sym e) (end_none h)
+  end_is (Some r) b e h = subst (IsReadable us) (sym e) (end_read (view r) h.1 h.0)

@@ -1,4 +1,4 @@
-//! Finds why a text is refused.
+//! Finds why a text is refused. A text and a sign come apart, as callers hold them.
 ghost use Rattle.std.specs.Prelude.{◌≡◌, false, not, List, IfOk};
 ghost use Rattle.diagnosis.specs.Faults.{digits_from, fault_next, fault_of, misnamed, too_large, unbegun};
 ghost use Rattle.diagnosis.specs.Meaning.{Diagnosed};
@@ -8,9 +8,9 @@ ghost use Rattle.text.specs.Spelling.{Spells, class, digit};
 
 use crate::fault::Fault;
 use crate::front::{before, reader_after};
-use message::position_of;
+use message::{in_word, position_of};
 use std::alloc::{AllocError, Global};
-use text::{Class, MOST_SIGNS, Part, Reader, Token, class_of, tokenize};
+use text::{MOST_SIGNS, Part, Reader, Token, class_of, tokenize};
 
 /// What is wrong with a sign with which no statement begins.
 fn unbegun(t: Token) -> Fault
@@ -29,11 +29,11 @@ fn misnamed(reader: &Reader, k: u8, qubit: u8) -> Fault
     ensures { result ≡ misnamed (view reader.now) k qubit }
 {
     let qubits = reader.place().room;
-    if qubit as u16 >= qubits {
+    if u16::from(qubit) >= qubits {
         return Fault::NoQubit { qubit, qubits };
     }
     let size = reader.size_of(k);
-    if reader.named() >= size as usize {
+    if reader.named() >= usize::from(size) {
         return Fault::TooManyQubits {
             block: k,
             qubits: size,
@@ -80,34 +80,23 @@ fn is_digit(b: u8) -> bool
 fn ends_word(b: u8) -> bool
     ensures { result ≡ not (in_word (class b)) }
 {
-    !matches!(class_of(b), Class::Alphanumeric)
+    !in_word(class_of(b))
 }
 
 /// Whether a word of digits alone begins these bytes.
 fn is_number(bytes: &[u8]) -> bool
     ensures { result ≡ digits_from false bytes.now }
 {
-    let mut some = false;
-    for b in bytes {
-        if !is_digit(*b) {
-            return some && ends_word(*b);
-        }
-        some = true;
-    }
-    some
+    let after = bytes.iter().find(|b| !is_digit(**b));
+    bytes.first().copied().is_some_and(is_digit) && after.copied().is_none_or(ends_word)
 }
 
 /// Whether a sign that is no number is written in digits alone.
 fn is_too_large(text: &[u8], sign: u64, t: Token) -> bool
     ensures { result ≡ too_large text.now sign t }
 {
-    match t {
-        Token::Other => {
-            let start = position_of(text, sign).byte.min(text.len());
-            is_number(&text[start..])
-        }
-        _ => false,
-    }
+    let start = position_of(text, sign).byte.min(text.len());
+    t == Token::Other && is_number(&text[start..])
 }
 
 /// Why a text is refused at the sign `t`, if a reader has read what stands before.
@@ -135,6 +124,7 @@ pub fn diagnose(heap: Global, text: &[u8], limit: u64, sign: u64) -> Result<Faul
         return Ok(Fault::TooManySigns);
     }
     let t = signs[sign as usize];
+    // By match, as a closure for the reader would hold all of limit, text, sign and t: no plainer.
     match reader_after(heap, before(&signs, sign))? {
         Some(reader) => Ok(fault_next(&reader, limit, is_too_large(text, sign, t), t)),
         None => Ok(Fault::Unexpected),

@@ -3,7 +3,8 @@ use crate::expect::{could_end, could_stand};
 use std::alloc::{AllocError, Global};
 use text::Token;
 
-/// How a sign is written, if it is a word or a mark.
+/// How a sign is shown, if it is a word or a mark.
+// The words stand here once more, in the quotes in which they are shown.
 fn spelled(t: Token) -> Option<&'static str> {
     match t {
         Token::Turn => Some("`turn`"),
@@ -62,6 +63,7 @@ fn put_numbers(heap: Global, signs: &[Token], items: &mut Vec<String>) -> Result
 /// These, with commas and a last `or` between them.
 fn joined(heap: Global, items: &[String]) -> Result<String, AllocError> {
     let mut out = String::new(heap);
+    // By number: what stands before an item goes by whether it is the first or the last.
     for (i, item) in items.iter().enumerate() {
         if i > 0 {
             out.push_str(if i + 1 < items.len() { ", " } else { " or " })?;

@@ -1,7 +1,7 @@
 //! Why a text is refused.
 
 /// What is wrong at the sign where a text is refused.
-#[derive(Clone, Copy)]
+#[derive(Clone, Copy, PartialEq, Eq, Debug)]
 pub enum Fault {
     /// The text has more than 4096 signs, and nothing is wrong before.
     TooManySigns,

@@ -39,11 +39,11 @@ impl fmt::Display for Fault {
             }
             Fault::Twice(qubit) => write!(f, "a call names qubit {qubit} twice"),
             Fault::TooManyQubits { block, qubits } => {
-                let noun = noun(qubits as u16);
+                let noun = noun(u16::from(qubits));
                 write!(f, "block {block} has only {qubits} {noun}")
             }
             Fault::TooFewQubits { block, qubits } => {
-                let noun = noun(qubits as u16);
+                let noun = noun(u16::from(qubits));
                 write!(f, "block {block} has {qubits} {noun}")
             }
             Fault::NotOpened => write!(f, "this brace was not opened"),

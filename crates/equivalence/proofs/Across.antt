@@ -14,7 +14,7 @@ use Rattle.circuit.specs.Rows.{row, amplitude}
 use Rattle.circuit.specs.declared.gate.Gate.{Gate}
 use Rattle.circuit.specs.declared.gate.Gate.TheVariants.{Phase, Hadamard, Not, ControlledNot, Toffoli}
 use Rattle.equivalence.proofs.Basis.{only, only-or, basis-only}
-use Rattle.equivalence.proofs.Cover.{nought-turned}
+use Rattle.amplitude.proofs.RingLaws.{turned-nought}
 use Rattle.equivalence.proofs.Local.{Agree, kern_agree}
 
 minus-nought : (a : Amplitude) → minus a nought ≡ a
@@ -45,7 +45,7 @@ only_flip zero q r b = refl
 only_flip (suc n) q r b = λ i. cond (match_flip (eqb n q) (r n) (b n) i) (only_flip n q r b i) nought
 
 act-nought : (k : Kern) → act k nought nought ≡ nought
-act-nought (keep m) = nought-turned m
+act-nought (keep m) = turned-nought m
 act-nought other = refl
 act-nought sum = plus_nought nought
 act-nought diff = minus_self nought
@@ -54,8 +54,8 @@ phased : (m : ℕ) (s t : Bool) (y : Amplitude) → act (cond s (keep m) (keep 0
 phased m s t y = at s ∙ sym (at t)
   where
     at : (x : Bool) → act (cond x (keep m) (keep 0)) nought y ≡ nought
-    at true = nought-turned m
-    at false = nought-turned 0
+    at true = turned-nought m
+    at false = turned-nought 0
 
 mixed : (s t : Bool) (y : Amplitude) → act (cond s diff sum) nought y ≡ act (cond t diff sum) nought y
 mixed s t y = at s ∙ sym (at t)

@@ -2,7 +2,7 @@
 use Rattle.std.proofs.Common.{◌≡◌, ℕ, zero, suc, Bool, true, false, cond, not, List, ℤ, pos, negsuc, sym, refl, ap, ◌∙◌, subst, ap₂, arith}
 use mathlib.Core.Path.{fun_ext}
 use Rattle.std.proofs.lemmas.Int.{ints}
-use Rattle.amplitude.proofs.RingLaws.{parts, plus_comm, plus_nought, minus_self, turned_plus, turned-minus, turned-turned, rooted_plus, rooted-minus, rooted_turned}
+use Rattle.amplitude.proofs.RingLaws.{parts, plus_comm, plus_nought, minus_self, turned_plus, turned-minus, turned-turned, rooted_plus, rooted-minus, rooted_turned, turned-nought}
 use Rattle.amplitude.specs.Ring.{nought, unit, plus, minus, turned, rooted}
 use Rattle.amplitude.specs.declared.Amplitude.{Amplitude}
 use Rattle.circuit.proofs.Linear.{run-plus, run-minus, run-turned}
@@ -60,10 +60,6 @@ Each (suc k) Q = Each k (λ u. Q (λ b. cond (b k) (u b) nought)) × Each k (λ 
 nought-plus : plus nought nought ≡ nought
 nought-plus = plus_nought nought
 
-pub nought-turned : (m : ℕ) → turned m nought ≡ nought
-nought-turned zero = refl
-nought-turned (suc m) = ap (turned 1) (nought-turned m)
-
 pub masked_plus : (t : Bool) (x y : Amplitude) → plus (cond t x nought) (cond t y nought) ≡ cond t (plus x y) nought
 masked_plus true x y = refl
 masked_plus false x y = nought-plus
@@ -74,7 +70,7 @@ masked_minus false x y = minus_self nought
 
 pub masked_turned : (t : Bool) (m : ℕ) (x : Amplitude) → turned m (cond t x nought) ≡ cond t (turned m x) nought
 masked_turned true m x = refl
-masked_turned false m x = nought-turned m
+masked_turned false m x = turned-nought m
 
 closed_masked : (Q : State → Type 0) → Closed Q → (p : Row → Bool) → Closed (λ u. Q (λ b. cond (p b) (u b) nought))
 closed_masked Q C p = record {

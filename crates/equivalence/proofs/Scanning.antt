@@ -7,7 +7,7 @@ use Rattle.amplitude.specs.Ring.{turned}
 use Rattle.circuit.specs.Circuit.{Same, AlikeBy, AllFit}
 use Rattle.circuit.specs.declared.gate.Gate.{Gate}
 use Rattle.equivalence.proofs.Basis.{basis-enough, basis_needed, turn-told}
-use Rattle.equivalence.proofs.Cover.{nought-turned}
+use Rattle.amplitude.proofs.RingLaws.{turned-nought}
 use Rattle.equivalence.proofs.Turning.{amplitude_discrete}
 use Rattle.equivalence.specs.Compare.{Agrees, Earlier, Before, FirstPair, Answers}
 use Rattle.equivalence.specs.Laws.{Decided}
@@ -31,7 +31,7 @@ earlier_row i j at from e = grind arith
 module _ (n : ℕ) (c d : List Gate) where
   -- where all before are nought any turn does
   any_turn : (at from : ℕ) → Told n c d at from None → (t : ℕ) → Before n at from (Agrees n c d t)
-  any_turn at from h t i j hi hj l = let p = h i j hi hj l in p.0 ∙ sym (ap (turned t) p.1 ∙ nought-turned t)
+  any_turn at from h t i j hi hj l = let p = h i j hi hj l in p.0 ∙ sym (ap (turned t) p.1 ∙ turned-nought t)
 
   -- the turn of all before, where one of them is not nought, is the only one
   only : (at from t : ℕ) → Told n c d at from (Some t) → (u : ℕ) → Before n at from (Agrees n c d u) → u % 8 ≡ t % 8
@@ -60,7 +60,7 @@ module _ (n : ℕ) (c d : List Gate) where
     pair_told None h (Ok (Some t)) (l, e, ne) = (
       l,
       before_next n at from (Agrees n c d t) (any_turn at from h t) e,
-      (at, from, hat, hfrom, inr (refl, omega arith), λ z. ne (e ∙ ap (turned t) z ∙ nought-turned t, z)),
+      (at, from, hat, hfrom, inr (refl, omega arith), λ z. ne (e ∙ ap (turned t) z ∙ turned-nought t, z)),
     )
     pair_told None h (Err j) (e, none) = subst (FirstPair n c d at) (sym e) (broken (0, omega arith, any_turn at from h 0) (λ t l _. none t l))
     pair_told (Some t) h (Ok o) (e, a) = subst (Told n c d at (suc from)) (sym e) (

@@ -1,21 +1,16 @@
 -- That there is one turn.
-use Rattle.std.proofs.Common.{◌≡◌, ℕ, zero, suc, ◌%◌, false, List, pos, sym, refl, ap, ◌∙◌, ap₂, arith}
+use Rattle.std.proofs.Common.{◌≡◌, ℕ, zero, suc, ◌%◌, false, List, pos, sym, refl, ap, ◌∙◌, arith}
 use mathlib.Core.Path.{fun_ext}
 use native.Mathlib.Decide.{ℕ_discrete}
-use Rattle.amplitude.proofs.RingLaws.{minus_self, rooted_injective}
-use Rattle.amplitude.specs.Ring.{nought, unit, minus, rooted}
+use Rattle.amplitude.proofs.RingLaws.{minus_self, rooted_injective, rooted-nought}
+use Rattle.amplitude.specs.Ring.{nought, unit, rooted}
 use Rattle.amplitude.specs.declared.Amplitude.{Amplitude}
 use Rattle.circuit.proofs.Linear.{run-minus}
 use Rattle.circuit.specs.Circuit.{Row, State, run, mixes, AllFit, AlikeBy}
 use Rattle.circuit.specs.declared.gate.Gate.{Gate}
 use Rattle.equivalence.proofs.Basis.{turn-told}
-use Rattle.equivalence.proofs.Cover.{nought-turned}
 use Rattle.equivalence.proofs.Turning.{amplitude_discrete}
 use Rattle.laws.proofs.Undo.{apart}
-
-rooted-nought : (m : ℕ) → rooted m nought ≡ nought
-rooted-nought zero = refl
-rooted-nought (suc m) = rw (rooted-nought m) (ap₂ minus (nought-turned 1) (nought-turned 3) ∙ minus_self nought)
 
 -- the turn is told, since no circuit brings all to nought
 unit-not : unit ≡ nought → ⊥

@@ -1,15 +1,15 @@
 //! The entry on circuits in numbers.
-ghost use Rattle.std.specs.Prelude.{◌≡◌, ◌%◌, ◌≤◌, length};
 ghost use Rattle.circuit.specs.Code.{gates_in};
 ghost use Rattle.circuit.specs.Refusals.{Checked};
 ghost use Rattle.equivalence.specs.Compare.{Compares, refusal_in_numbers, refusal_of_numbers};
 
-use crate::checks::{MOST_GATES, check_length, check_numbers};
+use crate::checks::{MOST_GATES, check_length};
 use crate::circuits::compare_circuits;
 use crate::comparison::Comparison;
-use circuit::{Gate, Refusal, Register, decode};
+use circuit::{Gate, Refusal, Register, check_numbers, decode_in};
 
 /// That no refusal applies to two circuits in numbers before their gates are looked at.
+// It is like `Pair::new`, and not one with it: numbers are looked at in place of gates, and the lists are four times as long.
 fn check(qubits: u64, c: &[u8], d: &[u8]) -> Result<(), Refusal>
     ensures { Checked (refusal_of_numbers qubits c.now d.now) result }
 {
@@ -20,17 +20,7 @@ fn check(qubits: u64, c: &[u8], d: &[u8]) -> Result<(), Refusal>
     check_numbers(d)
 }
 
-/// The gates that the numbers are, in the room.
-fn decode_in<'a>(room: &'a mut [Gate; MOST_GATES], numbers: &[u8]) -> &'a [Gate]
-    requires whole { length numbers.now % 4 ≡ 0 }
-    requires short { length numbers.now ≤ 4096 }
-    ensures { result.now ≡ gates_in numbers.now }
-{
-    let gates = &mut room[..numbers.len() / 4];
-    decode(numbers, gates);
-    gates
-}
-
+// The parameters are those of the interface on bytes.
 /// Whether two circuits in numbers, four a gate, are the same up to a global phase. It allocates nothing.
 pub fn compare(qubits: u64, c: &[u8], d: &[u8]) -> Result<Comparison, Refusal>
     ensures { Compares (refusal_in_numbers qubits c.now d.now) qubits (gates_in c.now) (gates_in d.now) result }

@@ -5,6 +5,8 @@ ghost use Rattle.equivalence.specs.Scan.{Tells};
 
 use amplitude::Amplitude;
 
+// `Within (2 ^ 61)` stands in each contract: a sum of amplitudes doubles the bound, so it is no invariant of `Amplitude`.
+
 /// Whether the turn takes `y` to `x`.
 fn agree(turn: u8, x: Amplitude, y: Amplitude) -> bool
     requires { Within (2 ^ 61) y }

@@ -1,5 +1,5 @@
 -- Where the text of a job ends and its device begins.
-use Rattle.std.specs.Prelude.{ℕ, suc, Bool, true, false, cond, not, ◌&&◌, ◌||◌, List, [], ◌∷◌, codes, ◌==◌}
+use Rattle.std.specs.Prelude.{ℕ, suc, ◌-◌, Bool, true, false, cond, not, ◌&&◌, ◌||◌, List, [], ◌∷◌, codes, ◌==◌, get_or, drop}
 use Rattle.text.specs.Spelling.{digit, letter}
 
 -- space, tab, carriage return
@@ -21,6 +21,14 @@ begins (w ∷ ws) (b ∷ bs) = b == w && begins ws bs
 abbrev pub device_line : List ℕ → Bool
 device_line [] = false
 device_line (b ∷ bs) = cond (space b) (device_line bs) (begins (codes "device") (b ∷ bs))
+
+-- a line starts at byte i of a job
+abbrev pub starts_line : List ℕ → ℕ → Bool
+starts_line bs i = i == 0 || get_or bs (i - 1) 0 == 10
+
+-- and its first word is `device`
+abbrev pub starts_device : List ℕ → ℕ → Bool
+starts_device bs i = starts_line bs i && device_line (drop i bs)
 
 -- how many bytes stand before the first such line; the first argument says that a line starts here
 abbrev pub text_length : Bool → List ℕ → ℕ

@@ -19,6 +19,7 @@ pub struct Builder {
     layout: Option<Vec<u8>>,
 }
 
+// The line's number, where a fault is told, is passed, and is no field: each contract would also say that it stays.
 impl Builder {
     pub fn new(heap: Global) -> Builder
         ensures { view result ≡ nothing }

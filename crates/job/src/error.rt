@@ -13,6 +13,7 @@ pub enum PlanError {
     NoLayout,
 }
 
+// Both by hand: a `From` that a derive writes has no contract, and callers tell which error the `?` makes.
 impl From<AllocError> for PlanError {
     ghost from_gives = { λ _ r. r ≡ Memory };
 

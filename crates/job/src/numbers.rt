@@ -11,6 +11,7 @@ pub fn numbers_in(heap: Global, tokens: &[Token]) -> Result<Option<Vec<u8>>, All
     ensures { IfOk result (λ o. items o ≡ numbers tokens.now) }
 {
     let mut out = Vec::new(heap);
+    // No `collect` into an Option: its contract does not say that a None comes of a sign that is no number.
     for t in tokens {
         let Token::Number(n) = *t else {
             return Ok(None);

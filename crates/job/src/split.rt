@@ -1,6 +1,6 @@
 //! Where the text of a job ends.
-ghost use Rattle.std.specs.Prelude.{◌≡◌, ◌≤◌, true, length, codes};
-ghost use Rattle.job.specs.Split.{space, ends_word, begins, device_line, text_length};
+ghost use Rattle.std.specs.Prelude.{◌≡◌, ◌<◌, ◌≤◌, true, length, codes};
+ghost use Rattle.job.specs.Split.{space, ends_word, begins, device_line, starts_device, text_length};
 
 fn is_space(b: u8) -> bool
     ensures { result ≡ space b }
@@ -28,18 +28,20 @@ fn is_device_line(bytes: &[u8]) -> bool
     begins_device(&bytes[spaces..])
 }
 
+/// Whether a line starts at a byte whose first word is `device`.
+fn starts_device(job: &[u8], at: usize) -> bool
+    requires { at < length job.now }
+    ensures { result ≡ starts_device job.now at }
+{
+    (at == 0 || job[at - 1] == b'\n') && is_device_line(&job[at..])
+}
+
 /// How many bytes of a job are its text: those before the first line that begins with `device`.
 pub fn text_length(job: &[u8]) -> usize
     ensures exact { result ≡ text_length true job.now }
     ensures within { result ≤ length job.now }
 {
-    // Whether a line starts is known from the byte before, so this is no plainer by `find` over a range.
-    let mut starts = true;
-    for (i, b) in job.iter().enumerate() {
-        if starts && is_device_line(&job[i..]) {
-            return i;
-        }
-        starts = *b == b'\n';
-    }
-    job.len()
+    (0..job.len())
+        .find(|at| starts_device(job, *at))
+        .unwrap_or(job.len())
 }

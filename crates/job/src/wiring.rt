@@ -11,7 +11,7 @@ impl Grid {
     pub(crate) fn new(heap: Global, size: u8) -> Result<Grid, AllocError>
         ensures { IfOk result (λ g. table g ≡ apart size) }
     {
-        let joined = vec![in heap; 0; size as usize * size as usize]?;
+        let joined = vec![in heap; 0; usize::from(size) * usize::from(size)]?;
         Ok(Grid { size, joined })
     }
 
@@ -21,8 +21,8 @@ impl Grid {
         requires second { b < self.old.size }
         ensures { table self.new ≡ wired a b (table self.old) }
     {
-        let n = self.size as usize;
-        self.joined[a as usize * n + b as usize] = 1;
-        self.joined[b as usize * n + a as usize] = 1;
+        let n = usize::from(self.size);
+        self.joined[usize::from(a) * n + usize::from(b)] = 1;
+        self.joined[usize::from(b) * n + usize::from(a)] = 1;
     }
 }

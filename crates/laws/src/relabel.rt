@@ -8,6 +8,7 @@ use circuit::Gate;
 pub fn renamed(gate: Gate, names: &[u8]) -> Gate
     ensures { result ≡ renamed (λ q. slice_index names.now q) gate }
 {
+    // 0 without a name, as in the definition, so that no call can fail.
     let name = |qubit: u8| names.get(usize::from(qubit)).copied().unwrap_or(0);
     match gate {
         Gate::Phase { eighths, qubit } => Gate::Phase {

@@ -17,7 +17,7 @@ pub enum Side {
     Second,
 }
 
-/// Why two texts are not compared.
+/// Why two texts are not compared: one list of reasons, since a text's refusal also says which side.
 #[derive(Drop)]
 pub enum CompareError {
     Memory,
@@ -27,6 +27,7 @@ pub enum CompareError {
     Refused(Refusal),
 }
 
+// By hand, as a derived `From` has no contract.
 impl From<AllocError> for CompareError {
     ghost from_gives = { λ _ r. r ≡ error.Memory };
 

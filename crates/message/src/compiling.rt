@@ -14,7 +14,7 @@ use std::alloc::{AllocError, Global};
 use text::{Circuit, read};
 use tidy::tidy;
 
-/// Why nothing comes of a job.
+/// Why nothing comes of a job: one list of reasons, which callers tell apart at once. The line of a `PlanError` counts from 0 behind the text, and this one from 1 over the whole job.
 #[derive(Drop)]
 pub enum JobError {
     Memory,
@@ -27,6 +27,7 @@ pub enum JobError {
     NoLayout,
 }
 
+// By hand, as a derived `From` has no contract.
 impl From<AllocError> for JobError {
     ghost from_gives = { λ _ r. r ≡ Memory };
 
@@ -103,6 +104,7 @@ fn decoded(heap: Global, code: &[u8]) -> Result<Vec<Gate>, AllocError>
 }
 
 /// Brings gates on so many qubits onto the device of a plan.
+// The room is lent whole, and the answer says how much of it is written: the byte entry allocates nothing.
 fn place_gates(heap: Global, qubits: u64, gates: &[Gate], plan: &Plan) -> Result<Compiled, JobError>
     requires { length gates.now ≤ 256 }
     ensures { Brought qubits gates.now (whole plan.now).0 (whole plan.now).1 result }
@@ -123,7 +125,7 @@ fn place_gates(heap: Global, qubits: u64, gates: &[Gate], plan: &Plan) -> Result
 }
 
 /// Tidies gates, unless they are to be left plain.
-// As a closure this step would have to be asked to keep `Improved`, which the test keeps by itself.
+// A bool, as the option is given or not; as a closure this step would have to be asked to keep `Improved`, which the test keeps by itself.
 fn tidy_unless(plain: bool, gates: &mut Vec<Gate>)
     ensures { Improved gates.old.items gates.new.items }
 {

@@ -11,7 +11,7 @@ mod show;
 
 pub use comparing::{CompareError, Side, compare_texts};
 pub use compiling::{JobError, compile_job, text_of};
-pub use locate::{Position, position_of, show_place, start_stands};
+pub use locate::{Position, in_word, position_of, show_place, start_stands};
 pub use reason::Reason;
 pub use round::round_trip_stands;
 pub use rows::{Digits, show_row};

@@ -13,7 +13,8 @@ pub struct Position {
     pub column: usize,
 }
 
-fn in_word(class: Class) -> bool
+/// Whether a byte of a class is part of a word.
+pub fn in_word(class: Class) -> bool
     ensures { result ≡ in_word class }
 {
     matches!(class, Class::Alphanumeric)
@@ -67,16 +68,16 @@ pub fn position_of(text: &[u8], sign: u64) -> Position
     }
 }
 
-/// The line that holds a place, with a mark under the place; nothing if the text is no UTF-8.
-pub fn show_place(heap: Global, text: &[u8], at: Position) -> Result<String, AllocError> {
+/// The line that holds a place, with a mark under the place; none if the text is no UTF-8.
+pub fn show_place(heap: Global, text: &[u8], at: Position) -> Result<Option<String>, AllocError> {
     let Ok(text) = std::str::from_utf8(text) else {
-        return Ok(String::new(heap));
+        return Ok(None);
     };
     let Some(line) = text.lines().nth(at.line.saturating_sub(1)) else {
-        return Ok(String::new(heap));
+        return Ok(None);
     };
     let margin = " ".repeat(heap, at.column)?;
-    format!(in heap; "    {line}\n   {margin}^\n")
+    Ok(Some(format!(in heap; "    {line}\n   {margin}^\n")?))
 }
 
 /// As many signs stand before a sign as its number says.

@@ -1,11 +1,13 @@
-//! Refusals in words.
+//! Refusals and errors in words.
 ghost use Rattle.std.specs.Prelude.{◌≡◌, Some};
-ghost use Rattle.message.specs.Reasons.{counted, meaning, reason};
+ghost use Rattle.message.specs.Reasons.{compare_error_text, counted, job_error_text, meaning, reason};
 
+use crate::comparing::CompareError;
+use crate::compiling::JobError;
 use circuit::Refusal;
 use std::fmt;
 
-/// What the place of a refusal counts.
+/// What the place of a refusal counts: words alone, which the `Display` of `Reason` writes around its number and its place.
 fn counted(refusal: Refusal) -> &'static str
     ensures { result.now ≡ counted refusal }
 {
@@ -18,6 +20,7 @@ fn counted(refusal: Refusal) -> &'static str
     }
 }
 
+/// What it means, in words alone too.
 fn meaning(refusal: Refusal) -> &'static str
     ensures { result.now ≡ meaning refusal }
 {
@@ -48,5 +51,32 @@ impl fmt::Display for Reason {
         let counted = counted(self.0);
         let meaning = meaning(self.0);
         write!(f, "refused {number} at {counted}{place}: {meaning}")
+    }
+}
+
+impl fmt::Display for JobError {
+    ghost output = { λ e. Some (job_error_text e) };
+
+    fn fmt<W: fmt::Write>(&self, f: &mut fmt::Formatter<W>) -> fmt::Result {
+        match self {
+            JobError::Memory => write!(f, "out of memory"),
+            JobError::Refused(refusal) => write!(f, "{}", Reason(*refusal)),
+            JobError::Line(_) => write!(f, "no line of a job, or one that cannot stand here"),
+            JobError::NoDevice => write!(f, "no line gives a device"),
+            JobError::NoLayout => write!(f, "no line gives a layout"),
+        }
+    }
+}
+
+impl fmt::Display for CompareError {
+    ghost output = { λ e. Some (compare_error_text e) };
+
+    fn fmt<W: fmt::Write>(&self, f: &mut fmt::Formatter<W>) -> fmt::Result {
+        match self {
+            CompareError::Memory => write!(f, "out of memory"),
+            CompareError::Text(_, refusal) | CompareError::Refused(refusal) => {
+                write!(f, "{}", Reason(*refusal))
+            }
+        }
     }
 }

@@ -26,7 +26,7 @@ impl fmt::Display for Digits {
     }
 }
 
-/// The digits of the row of a register with the number.
+/// The digits of the row of a register with the number. A comparison tells rows by their number alone, so register and number come apart.
 pub fn show_row(heap: Global, register: Register, number: usize) -> Result<String, AllocError>
     ensures { IfOk result (λ s. string_bytes s ≡ row_text register.qubits (row register.qubits number)) }
 {

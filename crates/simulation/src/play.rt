@@ -27,9 +27,9 @@ impl fmt::Display for Lines<'_> {
 
     fn fmt<W: fmt::Write>(&self, f: &mut fmt::Formatter<W>) -> fmt::Result {
         let register = self.0.register;
-        for number in 0..register.rows() {
-            let amplitude = self.0.amplitudes[number];
-            if !is_zero(amplitude) {
+        let amplitudes = &self.0.amplitudes[..register.rows()];
+        for (number, amplitude) in amplitudes.iter().enumerate() {
+            if !is_zero(*amplitude) {
                 let row = Digits { register, number };
                 writeln!(f, "{row}: {amplitude}")?;
             }

@@ -10,6 +10,7 @@ pub fn number_of(digits: &[bool]) -> usize
     ensures inside { result < 2 ^ length digits.now }
 {
     let mut number = 0;
+    // By for, as of a fold the bound of the sum is not known.
     for digit in digits {
         number = 2 * number + usize::from(*digit);
     }

@@ -42,6 +42,7 @@ fn t_count(gates: &[Gate]) -> usize
 pub fn count(gates: &[Gate]) -> Counts
     ensures { result ≡ counts gates.now }
 {
+    // Two filters: one function for both would take a closure with clauses, longer than they are.
     Counts {
         gates: gates.len(),
         cnots: gates

@@ -139,6 +139,10 @@ named k q s =
     (cond (has q s.names) None (Some (record { part = Naming k; braces = s.braces; row = s.row; names = s.names ++ q ∷ []; blocks = s.blocks; inside = s.inside; fresh = s.fresh; wide = s.wide; fits = s.fits })))
     None
 
+-- the block k, if a call that has named so many qubits may end
+abbrev pub callable : List Kept → ℕ → ℕ → Option Kept
+callable bs n k = cond (nat_lt k (length bs)) (cond (n == (slice_index_or bs k no_block).size) (Some (slice_index_or bs k no_block)) None) None
+
 abbrev pub called : ℕ → ℕ → State → Option State
 called limit k s =
     cond (nat_lt k (length s.blocks))

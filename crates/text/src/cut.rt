@@ -33,6 +33,7 @@ pub fn cut(heap: Global, text: &[u8], most: usize) -> Result<Vec<Token>, AllocEr
 {
     let mut out = Vec::new(heap);
     let mut start = 0;
+    // By place: each piece of `split_inclusive` would have to be taken apart again from its last byte, a sign or none.
     for (i, b) in text.iter().enumerate() {
         let class = class_of(*b);
         if class != Class::Alphanumeric {
@@ -51,6 +52,7 @@ pub fn cut(heap: Global, text: &[u8], most: usize) -> Result<Vec<Token>, AllocEr
 pub fn tokenize(heap: Global, text: &[u8]) -> Result<Vec<Token>, AllocError>
     ensures { IfOk result (λ v. Spells text.now v.items) }
 {
+    // No text has more signs.
     cut(heap, text, usize::MAX)
 }
 

@@ -1,8 +1,8 @@
 //! Reads the signs of a text, one after another.
-ghost use Rattle.std.specs.Prelude.{◌≡◌, ◌-◌, ◌^◌, ◌<◌, Some};
+ghost use Rattle.std.specs.Prelude.{◌≡◌, ◌-◌, ◌^◌, ◌<◌, Some, map, option_map};
 ghost use Rattle.circuit.specs.declared.failure.Failure.TheVariants.{Refused};
 ghost use Rattle.circuit.specs.declared.refusal.Refusal.TheVariants.{Text};
-ghost use Rattle.text.specs.Reading.{view, place, started, said, opened, entered, closed, left, named, called, act, between, settle, step, begins, ended, runs, reading, Runs, Follows, Settles};
+ghost use Rattle.text.specs.Reading.{view, place, started, said, opened, entered, closed, left, named, kept_as, callable, called, act, between, settle, step, begins, ended, runs, reading, Runs, Follows, Settles};
 
 use crate::program::Circuit;
 use crate::row::{Row, reach, span};
@@ -57,6 +57,15 @@ fn refused(at: u64) -> Failure
     ensures { result ≡ Refused (Text at) }
 {
     Failure::Refused(Refusal::Text(at))
+}
+
+/// The block `k`, if a call of it that has named so many qubits may end. Of the blocks alone, as a call borrows the row too.
+fn callable(blocks: &[Block], named: usize, k: u8) -> Option<&Block>
+    ensures { option_map (λ b. kept_as b.now) result ≡ callable (map kept_as blocks.now) named k }
+{
+    blocks
+        .get(usize::from(k))
+        .filter(|block| named == usize::from(block.size))
 }
 
 // The limit and a sign's place are passed, and are no fields: each contract would also say that they stay.
@@ -160,10 +169,7 @@ impl Reader {
     fn call(&mut self, limit: u64, at: u64, k: u8) -> Result<(), Failure>
         ensures { Follows result at (view self.new) (called limit k (view self.old)) }
     {
-        let block = self.blocks.get(usize::from(k)).ok_or(refused(at))?;
-        if self.names.len() != usize::from(block.size) {
-            return Err(refused(at));
-        }
+        let block = callable(&self.blocks, self.names.len(), k).ok_or(refused(at))?;
         self.row.append_renamed(limit, &block.row, &self.names)?;
         self.wide = self.wide.max(span(&self.names));
         self.start(false);

@@ -92,7 +92,7 @@ fn take_number(place: Place, part: Part, n: u8) -> Move
     ensures { result ≡ moved place part (Number n) }
 {
     match part {
-        Part::Start => Move::Go(Part::TimesWord(n)),
+        Part::Start => begin(place, Token::Number(n)),
         Part::TurnBy => Move::Go(Part::TurnOf(n)),
         Part::TurnQubit(eighths) if place.has(n) => Move::Go(Part::Ends(Gate::Phase {
             eighths,

@@ -63,6 +63,7 @@ fn one_more(n: u8, b: u8) -> Option<u8>
 fn number(w: &[u8]) -> Token
     ensures { result ≡ number_of w.now }
 {
+    // `parse` would take a `+` before the digits too.
     w.iter()
         .try_fold(0, |n, b| one_more(n, *b))
         .map_or(Token::Other, Token::Number)

@@ -29,6 +29,7 @@ does-moved (Toffoli c d q) s b = does-is (Toffoli c d q) s b
 nor : (x y : Bool) → (not x && not y) ≡ true → (x ≡ false) × (y ≡ false)
 nor x y e = let p = and_parts (not x) (not y) e in (not-true x p.0, not-true y p.1)
 
+-- as in the laws, but of what a gate reads and not of all that it is about
 kern_off : (g : Gate) (q : ℕ) (b : Row) → reads g q ≡ false → kern g (flipped q b) ≡ kern g b
 kern_off (Phase m p) q b e = rw (off q p b e)
 kern_off (Hadamard p) q b e = rw (off q p b e)

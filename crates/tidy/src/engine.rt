@@ -14,7 +14,7 @@ pub struct Partner {
     pub turn: u8,
 }
 
-/// How many gates there are at the front of what was lent, and the turn of the whole.
+/// How many gates there are at the front of what was lent, which cannot shrink, and the turn of the whole.
 #[derive(Clone, Copy)]
 pub struct Outcome {
     pub len: usize,
@@ -28,6 +28,7 @@ pub fn find(gates: &[Gate], gate: Gate) -> Option<Partner>
     ensures below { IfSome result (λ p. p.at < length gates.now) }
 {
     let mut carried = Carried { gate, turn: 0 };
+    // No `find_map`: what is carried changes from gate to gate.
     for (at, before) in gates.iter().enumerate().rev() {
         if let Some(gate) = rule(*before, carried.gate) {
             return Some(Partner {

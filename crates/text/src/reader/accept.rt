@@ -4,7 +4,7 @@ ghost use Rattle.text.specs.Accept.{accepts, size_of};
 ghost use Rattle.text.specs.Program.{has};
 ghost use Rattle.text.specs.Reading.{view, named, called, act, complete, step, runs, begins, Runs};
 
-use super::{Reader, run};
+use super::{Reader, callable, run};
 use crate::statement::{Move, Part, next};
 use crate::token::Token;
 use circuit::Failure;
@@ -22,9 +22,7 @@ impl Reader {
     fn may_call(&self, k: u8) -> bool
         ensures { result ≡ is_some (called 0 k (view self.now)) }
     {
-        self.blocks
-            .get(usize::from(k))
-            .is_some_and(|block| self.names.len() == usize::from(block.size))
+        callable(&self.blocks, self.names.len(), k).is_some()
     }
 
     /// Whether what a sign does can be done.

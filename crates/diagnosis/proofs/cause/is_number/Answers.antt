@@ -1,29 +1,19 @@
-use Rattle.std.proofs.Common.{◌≡◌, ℕ, ◌+◌, ◌<◌, Bool, true, false, cond, not, ◌&&◌, List, length, get_or, drop, sym, ap, ◌∙◌}
-use Rattle.std.proofs.lemmas.List.{at_drop_more, at_drop_all}
-use Rattle.message.specs.Where.{in_word}
-use Rattle.text.specs.Spelling.{digit, class}
-use Rattle.diagnosis.specs.Faults.{digits_from}
+use Rattle.std.proofs.Common.{not, ◌&&◌, find, sym, ap, ◌∙◌, rules, tests}
+use Rattle.std.proofs.lemmas.Iterator.{YieldsList-from_slice}
+use Rattle.std.proofs.lemmas.Iterator.Search.{find_from_yields_List}
+use Rattle.text.specs.Spelling.{digit}
+use Rattle.diagnosis.proofs.Causes.{starts, ends, started, ended, digits-are}
 use Rattle.diagnosis.proofs.cause.is_number.Goals as goal
 
--- one more byte
-module _ (bs : List ℕ) (i : ℕ) (some : Bool) (inside : i < length bs) (so_far : digits_from some (drop i bs) ≡ digits_from false bs) where
-  next-byte : (d : Bool) → d ≡ digit (get_or bs i 0) → cond d (digits_from true (drop (i + 1) bs)) (some && not (in_word (class (get_or bs i 0)))) ≡ digits_from false bs
-  unfolding digits_from
-  next-byte d e = ap (λ b. cond b (digits_from true (drop (i + 1) bs)) (some && not (in_word (class (get_or bs i 0))))) e ∙ sym (at_drop_more (digits_from some) bs i 0 inside) ∙ so_far
+pub returns-then-is_some_and : goal.returns-then-is_some_and
+returns-then-is_some_and c =
+    let bs = c.args.bytes.now in
+    let past = find_from_yields_List (λ b. not (digit b)) _ _ c.find-after.result c.find-after.ensures.ran (YieldsList-from_slice bs cc) (λ x b q k. search (rules, tests)) in
+    let first = started c.copied.result c.is_some_and.result c.is_some_and.ensures ∙ ap starts (c.copied.ensures ∙ c.first.ensures.value) in
+    ended c.copied-then-is_some_and.result c.is_none_or.result c.is_none_or.ensures ∙ ap ends (c.copied-then-is_some_and.ensures ∙ past) ∙ ap (λ b. b && ends (find (λ b. not (digit b)) bs)) (sym c.if-is_some_and.true ∙ first) ∙ digits-are bs
 
-pub returns-then-some : goal.returns-then-some
-returns-then-some c =
-    c.ends_word.ensures ∙ ap (λ b. b && not (in_word (class (get_or c.args.bytes.now c.loop-b.b-index 0)))) (sym c.if-some.true)
-    ∙ next-byte c.args.bytes.now c.loop-b.b-index c.loop-b.some c.loop-b-test.true c.loop-b.invariant false c.if-not-is_digit.ensures
-
-pub returns-else-some : goal.returns-else-some
-returns-else-some c =
-    c.if-some.false ∙ ap (λ b. b && not (in_word (class (get_or c.args.bytes.now c.loop-b.b-index 0)))) (sym c.if-some.false)
-    ∙ next-byte c.args.bytes.now c.loop-b.b-index c.loop-b.some c.loop-b-test.true c.loop-b.invariant false c.if-not-is_digit.ensures
-
-pub loop-b-preserved : goal.loop-b-preserved
-loop-b-preserved c = next-byte c.args.bytes.now c.loop-b.b-index c.loop-b.some c.loop-b-test.true c.loop-b.invariant true c.if-not-is_digit.ensures
-
-pub returns : goal.returns
-unfolding digits_from
-returns c = sym (at_drop_all (digits_from c.loop-b.some) c.args.bytes.now c.loop-b.b-index c.loop-b-test.false) ∙ c.loop-b.invariant
+pub returns-else-is_some_and : goal.returns-else-is_some_and
+returns-else-is_some_and c =
+    let bs = c.args.bytes.now in
+    let first = started c.copied.result c.is_some_and.result c.is_some_and.ensures ∙ ap starts (c.copied.ensures ∙ c.first.ensures.value) in
+    c.if-is_some_and.false ∙ ap (λ b. b && ends (find (λ b. not (digit b)) bs)) (sym c.if-is_some_and.false ∙ first) ∙ digits-are bs

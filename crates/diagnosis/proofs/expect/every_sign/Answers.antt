@@ -1,25 +1,19 @@
-use Rattle.std.proofs.Common.{◌≡◌, ℕ, suc, ◌+◌, List, [], ◌∷◌, ◌++◌, vec_items, sym, ap, ◌∙◌, append_assoc, append-nil, arith}
-use Rattle.text.specs.declared.token.Token.{Token}
+use Rattle.std.proofs.Common.{◌≡◌, ◌++◌, map, vec_items, subst, ap₂, ◌∙◌, rules, arith}
+use Rattle.std.specs.List.{range_with_len}
+use Rattle.std.specs.Result.{OnOk}
+use Rattle.std.proofs.lemmas.Iterator.{YieldsList-from_map, YieldsList-from_range}
+use Rattle.std.proofs.lemmas.Iterator.Adapters.{items_from_extend}
+use Rattle.std.proofs.lemmas.Result.{on_ok_weaker}
 use Rattle.text.specs.declared.token.Token.TheVariants.{Number}
-use Rattle.diagnosis.specs.Standing.{words, numbers}
+use Rattle.diagnosis.specs.Standing.{words}
+use Rattle.diagnosis.proofs.Candidates.{numbers-are}
 use Rattle.diagnosis.proofs.expect.every_sign.Goals as goal
 
-numbers_more : (n : ℕ) → numbers (n + 1) ≡ numbers n ++ Number n ∷ []
-unfolding numbers
-numbers_more n = let e : n + 1 ≡ suc n = omega arith in ap numbers e
-
-no_numbers : (xs : List Token) → xs ≡ words → xs ≡ words ++ numbers 0
-unfolding numbers
-no_numbers xs e = e ∙ sym (append-nil words)
-
-pub loop-n-init : goal.loop-n-init
-unfolding words
-loop-n-init c = no_numbers (vec_items c.in_ok-signs.signs) c.in_ok-signs.ensures.items
-
-pub loop-n-preserved : goal.loop-n-preserved
-loop-n-preserved c =
-    let n = c.loop-n.n in
-    c.in_ok-push.ensures.items ∙ ap (λ r. r ++ Number n ∷ []) c.loop-n.invariant ∙ append_assoc words (numbers n) (Number n ∷ []) ∙ ap (λ r. words ++ r) (sym (numbers_more n))
-
 pub returns : goal.returns
-returns c = let e : c.loop-n.n ≡ 256 = omega arith in c.loop-n.invariant ∙ ap (λ n. words ++ numbers n) e
+unfolding words
+returns c =
+    let all = map Number (range_with_len 0 256) in
+    let h = items_from_extend c.extend.result c.extend.ensures.ran (YieldsList-from_map _ Number (YieldsList-from_range 0 256 256 (cc) (omega arith)) c.map.ensures.closure (λ x r q k. search rules)) in
+    let added : OnOk c.extend.result (c.extend.new.self.items ≡ vec_items c.in_ok-signs.signs ++ all) = on_ok_weaker c.extend.result (λ e. e.0) h in
+    subst (λ r. OnOk r (c.extend.new.self.items ≡ vec_items c.in_ok-signs.signs ++ all)) c.in_ok-extend.was added
+    ∙ ap₂ (λ xs ys. xs ++ ys) c.in_ok-signs.ensures.items (numbers-are 256)

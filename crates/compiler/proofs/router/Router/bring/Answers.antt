@@ -22,12 +22,12 @@ loop-place-init g c =
 pub next_swap-swap-requires-clause-far : goal.next_swap-swap-requires-clause-far
 next_swap-swap-requires-clause-far g c =
     let router = c.args.self.now in
-    is_far (graph_of router.device.now) router.ways router.joined router.grown c.args.control c.args.target c.loop-place.invariant.0.doing.placed c.requires.two c.loop-place-test.ensures
+    is_far (graph_of router.device.now) router.ways router.joined router.grown c.args.control c.args.target c.loop-place.invariant.0.doing.placed c.requires.two c.from.ensures c.from-in-loop-place.ensures c.loop-place-test.ensures
 
 pub write-requires : goal.write-requires
 write-requires g c =
     let router = c.args.self.now in
-    let far = is_far (graph_of router.device.now) router.ways router.joined router.grown c.args.control c.args.target c.loop-place.invariant.0.doing.placed c.requires.two c.loop-place-test.ensures in
+    let far = is_far (graph_of router.device.now) router.ways router.joined router.grown c.args.control c.args.target c.loop-place.invariant.0.doing.placed c.requires.two c.from.ensures c.from-in-loop-place.ensures c.loop-place-test.ensures in
     simp take_rest (simp length-drop (omega (arith, far, c.loop-place.invariant.1, c.requires.room, c.loop-place.auto.room)))
 
 pub loop-place-preserved : goal.loop-place-preserved

@@ -1,4 +1,4 @@
-use Rattle.std.proofs.Common.{◌≡◌, ℕ, List, ◌++◌, codes, decimal, sym, ap, subst}
+use Rattle.std.proofs.Common.{◌≡◌, ℕ, List, ◌++◌, codes, decimal, sym, ap, ◌∙◌, subst}
 use Rattle.std.specs.declared.fmt.Formatter.{Formatter}
 use Rattle.std.specs.Fmt.{HasWritten}
 use Rattle.diagnosis.specs.declared.fault.Fault.{Fault}
@@ -38,10 +38,10 @@ pub returns-in-Twice-clause-writes : goal.returns-in-Twice-clause-writes
 returns-in-Twice-clause-writes g c p ok = put_fault _ _ c.in-Twice.is (c.write-in-Twice.ensures.writes p ok)
 
 pub returns-in-TooManyQubits-clause-writes : goal.returns-in-TooManyQubits-clause-writes
-returns-in-TooManyQubits-clause-writes g c p ok = put_fault _ _ c.in-TooManyQubits.is (put-noun (codes "block ") c.in-TooManyQubits.block (codes " has only ") c.in-TooManyQubits.qubits c.noun-noun-in-TooManyQubits.result.now c.noun-noun-in-TooManyQubits.ensures (c.write-in-TooManyQubits.ensures.writes p ok))
+returns-in-TooManyQubits-clause-writes g c p ok = put_fault _ _ c.in-TooManyQubits.is (put-noun (codes "block ") c.in-TooManyQubits.block (codes " has only ") c.in-TooManyQubits.qubits c.noun-noun-in-TooManyQubits.result.now (c.noun-noun-in-TooManyQubits.ensures ∙ ap noun c.from.ensures) (c.write-in-TooManyQubits.ensures.writes p ok))
 
 pub returns-in-TooFewQubits-clause-writes : goal.returns-in-TooFewQubits-clause-writes
-returns-in-TooFewQubits-clause-writes g c p ok = put_fault _ _ c.in-TooFewQubits.is (put-noun (codes "block ") c.in-TooFewQubits.block (codes " has ") c.in-TooFewQubits.qubits c.noun-noun-in-TooFewQubits.result.now c.noun-noun-in-TooFewQubits.ensures (c.write-in-TooFewQubits.ensures.writes p ok))
+returns-in-TooFewQubits-clause-writes g c p ok = put_fault _ _ c.in-TooFewQubits.is (put-noun (codes "block ") c.in-TooFewQubits.block (codes " has ") c.in-TooFewQubits.qubits c.noun-noun-in-TooFewQubits.result.now (c.noun-noun-in-TooFewQubits.ensures ∙ ap noun c.from-in-TooFewQubits.ensures) (c.write-in-TooFewQubits.ensures.writes p ok))
 
 pub returns-in-NotOpened-clause-writes : goal.returns-in-NotOpened-clause-writes
 returns-in-NotOpened-clause-writes g c p ok = put_fault _ _ c.in-NotOpened.is (c.write-in-NotOpened.ensures.writes p ok)

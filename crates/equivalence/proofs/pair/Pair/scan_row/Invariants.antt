@@ -5,6 +5,6 @@ use Rattle.equivalence.proofs.pair.Pair.scan_row.Given as goal
 
 abbrev pub invariant-loop-from : goal.invariant-loop-from
 invariant-loop-from l = record {
-  begun : Begun l.self.register.qubits l.self.c.now l.self.d.now l.row l.initial.from-iterator;
-  so_far : Told l.self.register.qubits l.self.c.now l.self.d.now l.row (length l.yielded) l.told;
+  begun : Begun l.self.register.qubits l.self.c.gates.now l.self.d.gates.now l.row l.initial.from-iterator;
+  so_far : Told l.self.register.qubits l.self.c.gates.now l.self.d.gates.now l.row (length l.yielded) l.told;
 }
