@@ -68,7 +68,7 @@ pub fn first_fault(numbers: &[u8]) -> Option<usize>
     ensures { result ≡ fault_from 0 numbers.now }
 {
     let (fours, _rest) = numbers.as_chunks::<4>();
-    // A `for`: with `find_map` the proof of the first place did not close.
+    // A `for`, which reads no worse: of what `find_map` gives the library has no lemma.
     for (gate, four) in fours.iter().enumerate() {
         if let Some(place) = fault_of(*four) {
             return Some(4 * gate + place);
@@ -112,7 +112,7 @@ pub fn decode(numbers: &[u8], gates: &mut [Gate])
     ensures { gates.new ≡ gates_in numbers.now }
 {
     let (fours, _rest) = numbers.as_chunks::<4>();
-    // By index: with a `zip` over `iter_mut` the proof of what is written did not close.
+    // By index: a `zip` with `iter_mut` needs an invariant over all that was lent so far, longer than this.
     for (i, four) in fours.iter().enumerate() {
         gates[i] = Gate::from(*four);
     }
