@@ -95,8 +95,12 @@ fn is_number(bytes: &[u8]) -> bool
 fn is_too_large(text: &[u8], sign: u64, t: Token) -> bool
     ensures { result ≡ too_large text.now sign t }
 {
-    let start = position_of(text, sign).byte.min(text.len());
-    t == Token::Other && is_number(&text[start..])
+    // Only then is the sign's place sought, which goes over the text.
+    t == Token::Other
+        && {
+            let start = position_of(text, sign).byte.min(text.len());
+            is_number(&text[start..])
+        }
 }
 
 /// Why a text is refused at the sign `t`, if a reader has read what stands before.

@@ -25,10 +25,12 @@ fn begins_sign(text: &[u8], at: usize) -> bool
     requires { at < length text.now }
     ensures { result ≡ begins_sign text.now at }
 {
-    match class_of(text[at]) {
-        Class::Alphanumeric => at == 0 || !in_word(class_of(text[at - 1])),
-        Class::Blank => false,
-        Class::Mark(_) => true,
+    // Letters and digits by the byte itself: to tell them by its class takes half as long again.
+    let here = text[at];
+    if here.is_ascii_alphanumeric() {
+        at == 0 || !text[at - 1].is_ascii_alphanumeric()
+    } else {
+        class_of(here) != Class::Blank
     }
 }
 
@@ -76,8 +78,8 @@ pub fn show_place(heap: Global, text: &[u8], at: Position) -> Result<Option<Stri
     let Some(line) = text.lines().nth(at.line.saturating_sub(1)) else {
         return Ok(None);
     };
-    let margin = " ".repeat(heap, at.column)?;
-    Ok(Some(format!(in heap; "    {line}\n   {margin}^\n")?))
+    let width = at.column.saturating_add(1);
+    Ok(Some(format!(in heap; "    {line}\n   {:>width$}\n", "^")?))
 }
 
 /// As many signs stand before a sign as its number says.

@@ -1,7 +1,7 @@
 //! Rows as they are written, qubit 0 first.
 ghost use Rattle.std.specs.Prelude.{◌≡◌, IfOk, Some, string_bytes};
 ghost use Rattle.circuit.specs.Rows.{row};
-ghost use Rattle.message.specs.Answers.{row_text};
+ghost use Rattle.message.specs.Answers.{digit, row_text};
 
 use circuit::Register;
 use std::alloc::{AllocError, Global};
@@ -14,13 +14,19 @@ pub struct Digits {
     pub number: usize,
 }
 
+/// How a bit is written: text, since a number would be put into decimals first.
+fn digit(bit: bool) -> &'static str
+    ensures { result.now ≡ digit bit }
+{
+    if bit { "1" } else { "0" }
+}
+
 impl fmt::Display for Digits {
     ghost output = { λ d. Some (row_text d.register.qubits (row d.register.qubits d.number)) };
 
     fn fmt<W: fmt::Write>(&self, f: &mut fmt::Formatter<W>) -> fmt::Result {
         for qubit in 0..self.register.qubits {
-            let digit = u8::from(self.register.has(self.number, qubit));
-            write!(f, "{digit}")?;
+            f.write_str(digit(self.register.has(self.number, qubit)))?;
         }
         Ok(())
     }

@@ -8,14 +8,6 @@ use Rattle.laws.specs.Rename.{about}
 abbrev pub listed : List ℕ → ℕ → ℕ
 listed xs k = slice_index xs k
 
--- the qubits of a gate, the last of them again where they are fewer than three
-abbrev pub qubits : Gate → List ℕ
-qubits (Phase m q) = q ∷ q ∷ q ∷ []
-qubits (Hadamard q) = q ∷ q ∷ q ∷ []
-qubits (Not q) = q ∷ q ∷ q ∷ []
-qubits (ControlledNot c q) = c ∷ q ∷ q ∷ []
-qubits (Toffoli c d q) = c ∷ d ∷ q ∷ []
-
 -- the first step at which all qubits of a gate are free, where the qubit q is free from step free q on
 abbrev pub ready : (ℕ → ℕ) → Gate → ℕ
 ready free (Phase m q) = free q

@@ -1,23 +1,9 @@
 //! How many steps a circuit takes, if gates without a qubit in common may take the same step.
-ghost use Rattle.std.specs.Prelude.{◌≡◌, ℕ, ◌+◌, ◌^◌, ◌<◌, max};
-ghost use Rattle.summary.specs.Depth.{InTime, NoSooner, depth, freed, listed, qubits, ready};
+ghost use Rattle.std.specs.Prelude.{◌≡◌, ℕ, ◌+◌, ◌^◌, ◌<◌, if◌then◌else◌, max};
+ghost use Rattle.laws.specs.Rename.{about};
+ghost use Rattle.summary.specs.Depth.{InTime, NoSooner, depth, freed, listed, ready};
 
 use circuit::Gate;
-
-/// The qubits of a gate, the last of them again where they are fewer than three.
-fn qubits(gate: Gate) -> [u8; 3]
-    ensures { result ≡ qubits gate }
-{
-    match gate {
-        Gate::Phase { qubit, .. } | Gate::Hadamard(qubit) | Gate::Not(qubit) => [qubit; 3],
-        Gate::ControlledNot { control, target } => [control, target, target],
-        Gate::Toffoli {
-            first,
-            second,
-            target,
-        } => [first, second, target],
-    }
-}
 
 /// Gates that begin as soon as they can: from which step on each qubit is free, and how many steps are taken.
 #[derive(Drop)]
@@ -42,9 +28,32 @@ impl Timetable {
     fn ready(&self, gate: Gate) -> usize
         ensures { result ≡ ready (listed self.now.free) gate }
     {
-        let [a, b, c] = qubits(gate);
         let free = |qubit: u8| self.free[usize::from(qubit)];
-        free(a).max(free(b)).max(free(c))
+        match gate {
+            Gate::Phase { qubit, .. } | Gate::Hadamard(qubit) | Gate::Not(qubit) => free(qubit),
+            Gate::ControlledNot { control, target } => free(control).max(free(target)),
+            Gate::Toffoli {
+                first,
+                second,
+                target,
+            } => free(first).max(free(second).max(free(target))),
+        }
+    }
+
+    /// Marks the gate's qubits as free from a step on.
+    fn occupy(&mut self, gate: Gate, end: usize)
+        ensures free { (k : ℕ) → listed self.new.free k ≡ (if about gate k then end else listed self.old.free k) }
+        ensures steps { self.new.steps ≡ self.old.steps }
+    {
+        match gate {
+            Gate::ControlledNot { control, .. } => self.free[usize::from(control)] = end,
+            Gate::Toffoli { first, second, .. } => {
+                self.free[usize::from(first)] = end;
+                self.free[usize::from(second)] = end;
+            }
+            _ => {}
+        }
+        self.free[usize::from(gate.target())] = end;
     }
 
     /// One gate more, which begins at the first step at which its qubits are all free.
@@ -54,10 +63,7 @@ impl Timetable {
         ensures steps { self.new.steps ≡ max self.old.steps (ready (listed self.old.free) gate + 1) }
     {
         let end = self.ready(gate) + 1;
-        let [a, b, c] = qubits(gate);
-        self.free[usize::from(a)] = end;
-        self.free[usize::from(b)] = end;
-        self.free[usize::from(c)] = end;
+        self.occupy(gate, end);
         self.steps = self.steps.max(end);
     }
 }

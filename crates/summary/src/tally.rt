@@ -1,6 +1,5 @@
 //! How many gates of each kind a circuit has.
 ghost use Rattle.std.specs.Prelude.{◌≡◌};
-ghost use Rattle.circuit.specs.Circuit.{t_count, worth};
 ghost use Rattle.summary.specs.Counts.{counts};
 
 use crate::schedule::depth;
@@ -19,41 +18,30 @@ pub struct Counts {
     pub depth: usize,
 }
 
-/// How many T gates a gate counts for.
-fn worth(gate: Gate) -> usize
-    ensures { result ≡ worth gate }
-{
-    match gate {
-        Gate::Phase { eighths, .. } => usize::from(eighths % 2),
-        Gate::Toffoli { .. } => 7,
-        _ => 0,
-    }
-}
-
-/// How many T gates a circuit counts for.
-#[tactic(auto, using(crate::proofs::Totals::t_count_sum))]
-fn t_count(gates: &[Gate]) -> usize
-    ensures { result ≡ t_count gates.now }
-{
-    gates.iter().map(|gate| worth(*gate)).sum()
-}
-
 /// Counts the gates of a circuit, and the steps that it takes.
 pub fn count(gates: &[Gate]) -> Counts
     ensures { result ≡ counts gates.now }
 {
-    // Two filters: one function for both would take a closure with clauses, longer than they are.
+    // In one pass: by a filter for each kind, counting takes half as long again.
+    let mut cnots = 0;
+    let mut toffolis = 0;
+    let mut t_count = 0;
+    for gate in gates {
+        match *gate {
+            Gate::Phase { eighths, .. } => t_count += usize::from(eighths % 2),
+            Gate::ControlledNot { .. } => cnots += 1,
+            Gate::Toffoli { .. } => {
+                toffolis += 1;
+                t_count += 7;
+            }
+            _ => {}
+        }
+    }
     Counts {
         gates: gates.len(),
-        cnots: gates
-            .iter()
-            .filter(|gate| matches!(gate, Gate::ControlledNot { .. }))
-            .count(),
-        toffolis: gates
-            .iter()
-            .filter(|gate| matches!(gate, Gate::Toffoli { .. }))
-            .count(),
-        t_count: t_count(gates),
+        cnots,
+        toffolis,
+        t_count,
         hadamards: count_mixes(gates) as usize,
         depth: depth(gates),
     }
