@@ -25,7 +25,7 @@ fn begins_sign(text: &[u8], at: usize) -> bool
     requires { at < length text.now }
     ensures { result ≡ begins_sign text.now at }
 {
-    // Letters and digits by the byte itself: to tell them by its class takes half as long again.
+    // Letters and digits by the byte itself: to tell them by its class takes twice as long.
     let here = text[at];
     if here.is_ascii_alphanumeric() {
         at == 0 || !text[at - 1].is_ascii_alphanumeric()

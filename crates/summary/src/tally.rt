@@ -22,7 +22,7 @@ pub struct Counts {
 pub fn count(gates: &[Gate]) -> Counts
     ensures { result ≡ counts gates.now }
 {
-    // In one pass: by a filter for each kind, counting takes half as long again.
+    // In one pass, which is faster than a filter for each kind.
     let mut cnots = 0;
     let mut toffolis = 0;
     let mut t_count = 0;

@@ -9,8 +9,8 @@ use Rattle.summary.proofs.schedule.depth.Goals as goal
 
 pub loop-gate-init : goal.loop-gate-init
 loop-gate-init c =
-    let same = ap (λ (f : ℕ → ℕ). steps (earliest f c.args.gates.now)) (fun_ext c.new-timetable.ensures.free) in
-    (omega arith, λ k. omega (arith, c.new-timetable.ensures.free k))
+    let same = ap (λ (f : ℕ → ℕ). steps (earliest f c.args.gates.now)) (fun_ext c.new-timetable.ensures) in
+    (omega arith, λ k. omega (arith, c.new-timetable.ensures k))
 
 pub place-requires : goal.place-requires
 place-requires c =

@@ -4,5 +4,5 @@ use Rattle.summary.proofs.schedule.depth.Given as goal
 
 abbrev pub invariant-loop-gate : goal.invariant-loop-gate
 invariant-loop-gate l =
-    (max l.timetable.steps (steps (earliest (listed l.timetable.free) (drop l.gate-index l.gates))) ≡ depth l.gates)
+    (max l.steps (steps (earliest (listed l.timetable.free) (drop l.gate-index l.gates))) ≡ depth l.gates)
     × ((k : ℕ) → listed l.timetable.free k ≤ l.gate-index)

@@ -7,5 +7,5 @@ blank zero k = refl
 blank (suc n) zero = refl
 blank (suc n) (suc k) = blank n k
 
-pub returns-clause-free : goal.returns-clause-free
-returns-clause-free c = blank 256
+pub returns : goal.returns
+returns c = blank 256

@@ -8,9 +8,9 @@ use Rattle.summary.proofs.schedule.Timetable.occupy.Goals.{in-ControlledNot, in-
 set_is : (xs : List ℕ) (i e k : ℕ) → i < length xs → get_or (set xs i e) k 0 ≡ cond (eqb k i) e (get_or xs k 0)
 set_is xs i e k l = grind (arith, nat_tests, get_or-set_same xs i e 0 l, get_or-set_other xs i k e 0)
 
-pub returns-clause-free : goal.returns-clause-free
+pub returns : goal.returns
 unfolding about
-returns-clause-free c k =
+returns c k =
     let old = c.args.self.now.free in
     let end = c.args.end in
     let last = set_is c.match-gate.self.free c.from-2.result end k in

@@ -5,4 +5,4 @@ use Rattle.summary.proofs.schedule.Timetable.place.Goals as goal
 
 pub returns-clause-free : goal.returns-clause-free
 unfolding freed
-returns-clause-free c k = c.occupy.ensures.free k ∙ ap (λ e. cond (about c.args.gate k) e (listed c.args.self.now.free k)) (ap (λ n. n + 1) c.ready-end.ensures)
+returns-clause-free c k = c.occupy.ensures k ∙ ap (λ e. cond (about c.args.gate k) e (listed c.args.self.now.free k)) (ap (λ n. n + 1) c.ready-end.ensures)
